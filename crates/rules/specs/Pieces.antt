@@ -1,0 +1,88 @@
+-- "A transaction has 1 to 8 pieces, strictly rising by 16 × shard + key. A piece has shard, key, kind and signed operand."
+-- "Kinds: 0 read (operand must be 0; gives the value), 1 put (gives the operand), 2 add (gives the sum)."
+use Prim.Native.Nat.{ℕ, zero, suc, _+_, _*_, _-_}
+use mathlib.Core.Bool.{Bool, true, false, not, _&&_, _||_}
+use lib.Dec.{ltb, leb, eqb}
+use lib.ListN.{getD, replicate}
+use lib.IntN.{ℤ, pos, negsuc}
+use Rattle.masks.specs.Folds.{allBelow, anyBelow, countBelow, maskOf}
+use Rattle.rules.specs.declared.Piece.{Piece}
+use Rattle.rules.specs.declared.Pieces.{Pieces}
+
+abbrev pub noPiece : Piece
+noPiece = record { shard = 0; key = 0; kind = 0; operand = pos 0 }
+
+abbrev pub noPieces : Pieces
+noPieces = record { list = replicate 8 noPiece; count = 0 }
+
+abbrev pub pieceAt : Pieces → ℕ → Piece
+pieceAt ps i = getD (ps .list) i noPiece
+
+-- pieces are held, or none
+abbrev pub anyPieces : Pieces → Bool
+anyPieces ps = not (eqb (ps .count) 0)
+
+abbrev pub read : ℕ
+read = 0
+
+abbrev pub put : ℕ
+put = 1
+
+abbrev pub add : ℕ
+add = 2
+
+abbrev pub place : Piece → ℕ
+place p = 16 * p .shard + p .key
+
+unfoldable pub isZero : ℤ → Bool
+isZero (pos zero) = true
+isZero (pos (suc n)) = false
+isZero (negsuc n) = false
+
+-- one piece: shards 0 to 3, keys 0 to 15, kinds 0 to 2, and a read has operand 0
+abbrev pub pieceKept : Piece → Bool
+pieceKept p = ltb (p .shard) 4 && ltb (p .key) 16 && ltb (p .kind) 3 && (not (eqb (p .kind) read) || isZero (p .operand))
+
+-- the piece i keeps it, and stands after the one before it
+unfoldable pub entryKept : Pieces → ℕ → Bool
+entryKept ps i = pieceKept (pieceAt ps i) && (eqb i 0 || ltb (place (pieceAt ps (i - 1))) (place (pieceAt ps i)))
+
+-- 12: a count above 8
+abbrev pub tooMany : Pieces → Bool
+tooMany ps = ltb 8 (ps .count)
+
+-- rule 2 is kept
+unfoldable pub piecesKept : Pieces → Bool
+piecesKept ps = leb 1 (ps .count) && leb (ps .count) 8 && allBelow (entryKept ps) (ps .count)
+
+-- the piece i is there, and on shard k
+unfoldable pub onShard : Pieces → ℕ → ℕ → Bool
+onShard ps k i = ltb i (ps .count) && eqb (pieceAt ps i .shard) k
+
+-- T touches shard k
+unfoldable pub touches : Pieces → ℕ → Bool
+touches ps k = anyBelow (onShard ps k) 8
+
+-- the shards that T touches, as a word
+unfoldable pub shardsOf : Pieces → ℕ
+shardsOf ps = maskOf (touches ps) 4
+
+-- how many pieces T has on shard k
+unfoldable pub piecesOn : Pieces → ℕ → ℕ
+piecesOn ps k = countBelow (onShard ps k) 8
+
+-- The same pieces: arrays up to their counts.
+unfoldable pub sameInt : ℤ → ℤ → Bool
+sameInt (pos m) (pos n) = eqb m n
+sameInt (pos m) (negsuc n) = false
+sameInt (negsuc m) (pos n) = false
+sameInt (negsuc m) (negsuc n) = eqb m n
+
+unfoldable pub samePiece : Piece → Piece → Bool
+samePiece p q = eqb (p .shard) (q .shard) && eqb (p .key) (q .key) && eqb (p .kind) (q .kind) && sameInt (p .operand) (q .operand)
+
+unfoldable pub sameEntry : Pieces → Pieces → ℕ → Bool
+sameEntry a b i = leb (a .count) i || samePiece (pieceAt a i) (pieceAt b i)
+
+unfoldable pub samePieces : Pieces → Pieces → Bool
+samePieces a b = eqb (a .count) (b .count) && allBelow (sameEntry a b) 8
