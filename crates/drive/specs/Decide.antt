@@ -1,7 +1,4 @@
--- "Phases 0 and 1 decide when all servers of T's shards answered, or on 'move on' with two answers in each. Phase 2 decides at once with two in each."
--- "Phase 0: if any answer held an accepted set, take that of the highest accepted ballot to phase 2 (of equals, the lowest server's)."
--- "Else, if every answer has an arrival word and the words are equal within each shard, take them to phase 2. Else phase 1, same ballot."
--- "Phase 1: at ballot 0, with all answered and equal words within each shard, phase 3. Else phase 2. The set is the union per shard of the counted words. Phase 2: phase 3."
+-- Document 01, "The drive": when the counted answers decide, what they say, and what each phase decides.
 use Prim.Native.Nat.{ℕ}
 use mathlib.Core.Bool.{Bool, not, _&&_}
 use lib.Dec.{ltb, leb, eqb}
@@ -87,16 +84,18 @@ highest d = iter (better d) 12 12
 
 -- ---- the decisions
 
--- phase 0; best is the server that holds the highest accepted ballot, if any does
+-- phase 0: the accepted set of the highest ballot goes to phase 2, which the server best holds; else equal arrival words do; else phase 1 at the same ballot
 unfoldable pub decide0 : Drive → (best : ℕ) (equal : Bool) → Drive
 decide0 d best equal =
     toPhase 2 d (answerAt d best .accepted .set) if ltb best 12
     else toPhase 2 d (unions d) if equal
     else toPhase1 d
 
+-- phase 1: the union of the words, to phase 3 where the ballot is the first, all answered and the words are equal; else to phase 2
 unfoldable pub decide1 : Drive → (first all equal : Bool) → Drive
 decide1 d first all equal = toPhase 3 d (unions d) if first && all && equal else toPhase 2 d (unions d)
 
+-- phase 2: to phase 3
 unfoldable pub decide2 : Drive → Drive
 decide2 d = toPhase 3 d (d .chosen .set)
 

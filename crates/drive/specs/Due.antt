@@ -1,4 +1,4 @@
--- "The message due, and to which servers, depends on the drive alone. Phases 0 to 2 address every server of T's shards; in phase 3 a Commit is due to the same servers."
+-- Document 01, "The drive": the message due and the servers that it is due to, every server of T's shards in each phase. It depends on the drive alone.
 use Prim.Native.Nat.{ℕ}
 use lib.Dec.{eqb}
 use Rattle.masks.specs.Folds.{maskOf}

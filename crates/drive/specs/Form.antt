@@ -1,6 +1,5 @@
--- "For a drive also T, coordinator and phase in range, a ballot that its coordinator may use for T (not 0 in phase 0),"
--- "counted answers only from servers of T's shards and too few to decide without 'move on', none in phase 3, and a set held exactly in phases 2 and 3."
--- Held pieces keep rule 2 and held sets rule 3; held ballots valid.
+-- Document 01, "Refusal numbers", State form of a drive: numbers in range; pieces; ballots; answers from servers of T's shards only, too few to decide by themselves, and none in phase 3; a set exactly in phases 2 and 3.
+-- What an answer holds is judged where its phase has it: words in phases 0 and 1, accepted sets in phase 0.
 use Prim.Native.Nat.{ℕ}
 use mathlib.Core.Bool.{Bool, not, _&&_, _||_}
 use lib.Dec.{leb, ltb, eqb}

@@ -1,5 +1,4 @@
--- "Each reply moves it on." Order of a drive's refusals: 13, 12, 1, 2, 8, 5, 3. "Behind allows a server already counted."
--- "A server's OK for this T, ballot and phase counts once. Done, before phase 3: phase 3 with its set. Behind only records the promise."
+-- Document 01, "The drive" and "Refusal numbers": a reply. An OK of this number, ballot and phase is counted once, and decides if it is the last one needed; Done goes to phase 3 with its set; Behind records the promise.
 use Prim.Native.Nat.{ℕ}
 use mathlib.Core.Bool.{Bool, not, _&&_, _||_}
 use lib.Dec.{eqb}
@@ -18,11 +17,11 @@ use Rattle.drive.specs.Held.{counted, touched, addressed, toPhase, withA
 use Rattle.drive.specs.Decide.{decided, decide}
 use Rattle.drive.specs.Form.{formed}
 
--- 12: "a code that side doesn't take", "count above 8"
+-- 12: a code that a drive does not take, or a count above 8
 unfoldable pub notTaken : Message → Bool
 notTaken m = not (driveTakes (m .code)) || overCount m
 
--- 8, "a reply for another phase": an OK belongs to one phase, Done and Behind to any but 3
+-- 8, by phase: an OK belongs to one phase, Done and Behind to any but 3
 unfoldable pub otherPhase : ℕ → Message → Bool
 otherPhase phase m =
     not (eqb phase 0) if eqb (m .code) PrepareOK
@@ -30,7 +29,7 @@ otherPhase phase m =
     else not (eqb phase 2) if eqb (m .code) AcceptOK
     else eqb phase 3
 
--- 8: "a reply for another T, ballot or phase, or from a server counted or untouched; any event in phase 3"
+-- 8: another phase, number or ballot, or a server that is not one of T's shards, or is counted; Behind may come from a counted one
 unfoldable pub misplaced : Drive → Message → Bool
 misplaced d m =
     otherPhase (d .phase) m
@@ -39,10 +38,11 @@ misplaced d m =
     || (shapeOf (m .code) .server && not (addressed (touched d) (m .server)))
     || (oks (m .code) && counted d (m .server))
 
--- 5: "pieces differ from those held"
+-- 5: other pieces than the drive's
 unfoldable pub otherPieces : Drive → Message → Bool
 otherPieces d m = shapeOf (m .code) .pieces && not (samePieces (d .pieces) (m .pieces))
 
+-- the first test that fires gives its number; 0 is no refusal
 unfoldable pub refusal : Drive → Message → ℕ
 refusal d m =
     13 if not (formed d)

@@ -1,5 +1,4 @@
--- "A drive carries one transaction for one coordinator. Phases: 0 prepare, 1 pre-accept, 2 accept, 3 commit."
--- "These three and every new phase begin with no answers counted."
+-- Document 01, "The drive": what a drive holds, an answer for each server among it. Phases: 0 prepare, 1 pre-accept, 2 accept, 3 commit. A new phase begins with no answer counted.
 use Prim.Native.Nat.{ℕ, max}
 use mathlib.Core.Bool.{Bool}
 use mathlib.Core.List.{List}
@@ -50,6 +49,6 @@ toPhase p d v = record { t = d .t; coordinator = d .coordinator; ballot = d .bal
 abbrev pub withAnswer : Drive → ℕ → Answer → Drive
 withAnswer d s a = record { t = d .t; coordinator = d .coordinator; ballot = d .ballot; phase = d .phase; pieces = d .pieces; answers = set (d .answers) s a; chosen = d .chosen; seen = d .seen }
 
--- "Behind only records the promise."
+-- the highest promise seen
 abbrev pub withPromise : Drive → ℕ → Drive
 withPromise d p = record { t = d .t; coordinator = d .coordinator; ballot = d .ballot; phase = d .phase; pieces = d .pieces; answers = d .answers; chosen = d .chosen; seen = max (d .seen) p }

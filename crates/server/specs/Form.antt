@@ -1,5 +1,4 @@
--- "State form: server at most 11; held pieces keep rule 2 and held sets rule 3; held ballots valid; any held set has pieces;"
--- "log at most 64, no repeats, each number committed and everything before it in the log too; results for exactly the logged numbers, one per piece on this shard."
+-- Document 01, "Refusal numbers", State form of a server: its number; the pieces, ballots and sets of each record; the log; the results. Refusal 13 is given where one of these parts fails, and for nothing else.
 use Prim.Native.Nat.{ℕ}
 use mathlib.Core.Bool.{Bool, not, _&&_, _||_}
 use lib.Dec.{leb, eqb}

@@ -1,4 +1,4 @@
--- What a server refuses. "Order: server 13, 12, 1, 2, 3, 4, 5, 6."
+-- Document 01, "Refusal numbers", at a server: each number's test, and the order of the tests.
 use Prim.Native.Nat.{ℕ}
 use mathlib.Core.Bool.{Bool, not, _&&_, _||_}
 use Rattle.masks.specs.Bits.{has}
@@ -14,22 +14,23 @@ use Rattle.server.specs.declared.Server.{Server}
 use Rattle.server.specs.Held.{recordAt, shard}
 use Rattle.server.specs.Form.{formed}
 
--- 12: "a code that side doesn't take", "count above 8"
+-- 12: a code that a server does not take, or a count above 8
 unfoldable pub notTaken : Message → Bool
 notTaken m = not (serverTakes (m .code)) || overCount m
 
--- 4: "PreAccept, Accept or Prepare at a server whose shard T doesn't touch"
+-- 4: a PreAccept, Accept or Prepare, where T does not touch this server's shard
 unfoldable pub untouched : (k touched : ℕ) → Message → Bool
 untouched k touched m = asks (m .code) && not (has touched k)
 
--- 5: "pieces differ from those held"
+-- 5: other pieces than those held
 unfoldable pub otherPieces : Record → Message → Bool
 otherPieces v m = shapeOf (m .code) .pieces && anyPieces (v .pieces) && not (samePieces (v .pieces) (m .pieces))
 
--- 6: "Commit, or Done at a server, with another set than the committed one"
+-- 6: a Commit or Done with another set than the one that is committed
 unfoldable pub otherSet : Record → Message → Bool
 otherSet v m = commits (m .code) && there (v .committed .some) && not (sameSet (v .committed .set) (m .set))
 
+-- the first test that fires gives its number; 0 is no refusal
 unfoldable pub refusal : Server → Message → ℕ
 refusal s m =
     13 if not (formed s)

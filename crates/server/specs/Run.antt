@@ -1,5 +1,4 @@
--- "A run takes the lowest ready number and runs it with all numbers that are before it and after it both, in rising number."
--- "It appends them to the log, those without pieces here too, and answers how many ran, or 0 with nothing changed. Repeated until 0, no closed number is left unrun."
+-- Document 01, "Running": a run. It runs the next group in rising number, logs each number of it, with pieces here or without, and answers how many ran; where nothing is ready it answers 0 and changes nothing. And runs repeated until 0.
 use Prim.Native.Nat.{ℕ, zero, suc, _-_}
 use mathlib.Core.List.{List}
 use lib.Dec.{eqb}

@@ -1,4 +1,4 @@
--- What is wrong with a message by itself: rules 12, 1, 2 and 3 of the fields that its code has.
+-- Document 01, "Refusal numbers": what is wrong with a message by itself, by 12, 1, 2 and 3, in the fields that its code has. Server and drive share these.
 use Prim.Native.Nat.{ℕ}
 use mathlib.Core.Bool.{Bool, not, _&&_, _||_}
 use lib.Dec.{eqb}
@@ -15,7 +15,7 @@ use Rattle.wire.specs.Codes.{shapeOf, Prepare}
 unfoldable pub overCount : Message → Bool
 overCount m = shapeOf (m .code) .pieces && tooMany (m .pieces)
 
--- 1: "T above 63; server above 11; a ballot or promise in any field 1 to 7 or above 65,535; Prepare at ballot 0"
+-- 1: a number, server, ballot or promise out of its range, or a Prepare at ballot 0
 unfoldable pub badNumbers : Message → Bool
 badNumbers m =
     badNumber (m .t)
@@ -25,11 +25,11 @@ badNumbers m =
     || (shapeOf (m .code) .prepared && there (m .accepted .some) && badBallot (m .accepted .ballot))
     || (eqb (m .code) Prepare && eqb (m .ballot) 0)
 
--- 2: "the piece rules are broken"
+-- 2: pieces that break their rule
 unfoldable pub badPieces : Message → Bool
 badPieces m = shapeOf (m .code) .pieces && not (piecesKept (m .pieces))
 
--- 3: "a set or arrival word holds its own T, or a word of a shard that T doesn't touch isn't 0", where T touches these shards
+-- 3: a set or an arrival word that breaks its rule, where T touches these shards
 unfoldable pub badSets : (touched : ℕ) → Message → Bool
 badSets touched m =
     (shapeOf (m .code) .set && badSet (m .t) touched (m .set))
