@@ -1,0 +1,4 @@
+pub mod Bools
+pub mod Turns
+pub mod Laws
+pub mod Counts
