@@ -10,7 +10,7 @@ use lib.Pow.{pow-pos, mod-pow-add}
 use lib.Count.{onesIn, ones, ones-step, ones-cat, ones-le}
 use Rattle.masks.specs.Bits.{bit, In, has}
 use Rattle.masks.specs.Folds.{countBelow, size}
-use Rattle.masks.proofs.Laws.{bit-lt}
+use Rattle.masks.proofs.Digits.{bit-lt}
 
 pub ones-of-digit : (d : ℕ) → d < 2 → ones d ≡ d
 unfolding ones onesIn
