@@ -4,3 +4,4 @@ pub mod Digits
 pub mod Laws
 pub mod FoldLaws
 pub mod Counts
+pub mod Fills
