@@ -4,7 +4,7 @@ use Prim.Native.Nat.{ℕ}
 use native.Mathlib.Omega.{arith}
 use borrow.Author.Needs.{needs}
 use lib.Dec.{eqb}
-use Rattle.masks.proofs.Laws.{shifted, bit-past}
+use Rattle.masks.proofs.Digits.{shifted, bit-past}
 use Rattle.masks.proofs.has.Statement.{statement}
 use Rattle.masks.proofs.has.Tie as tie
 

@@ -3,7 +3,7 @@ use mathlib.Core.Path.{ap}
 use borrow.Author.Needs.{needs}
 use lib.Bits.{bitOr}
 use Rattle.masks.specs.Bits.{insert}
-use Rattle.masks.proofs.Laws.{one-shifted}
+use Rattle.masks.proofs.Digits.{one-shifted}
 use Rattle.masks.proofs.insert.Statement.{statement}
 use Rattle.masks.proofs.insert.Tie as tie
 
