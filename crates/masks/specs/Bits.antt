@@ -1,4 +1,4 @@
--- "Bit T of word k says that T came earlier": a word is a set of numbers, and T is in it if its binary digit at T is 1.
+-- A word as a set of numbers: a number is in it if the binary digit there is 1. Document 01's dependency sets and arrival sets are made of such words.
 use mathlib.Core.Path.{_≡_}
 use mathlib.Core.Bool.{Bool}
 use Prim.Native.Nat.{ℕ, _-_, _/_, _%_, _^_}

@@ -1,4 +1,4 @@
--- "Two different transactions conflict at a shard if they share a key there and not both pieces are reads."
+-- Document 01, "The cluster": two transactions conflict at a shard where both have a piece on one key there, and one of these two pieces is no read.
 use Prim.Native.Nat.{ℕ}
 use mathlib.Core.Bool.{Bool, not, _&&_}
 use lib.Dec.{eqb, ltb}

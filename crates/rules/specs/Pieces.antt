@@ -1,5 +1,4 @@
--- "A transaction has 1 to 8 pieces, strictly rising by 16 × shard + key. A piece has shard, key, kind and signed operand."
--- "Kinds: 0 read (operand must be 0; gives the value), 1 put (gives the operand), 2 add (gives the sum)."
+-- Document 01, "The cluster", pieces: the rule of one piece, the rule of a transaction's pieces (rule 2), the shards that they touch, and when two transactions have the same pieces.
 use Prim.Native.Nat.{ℕ, zero, suc, _+_, _*_, _-_}
 use mathlib.Core.Bool.{Bool, true, false, not, _&&_, _||_}
 use lib.Dec.{ltb, leb, eqb}

@@ -1,5 +1,5 @@
--- "A dependency set is four 64-bit words, one per shard; bit T of word k says that T came earlier in a conflict at shard k."
--- Rule 3: "a set or arrival word holds its own T, or a word of a shard that T doesn't touch isn't 0".
+-- Document 01, "The cluster", dependency sets: a word for each shard, of the numbers that came earlier in a conflict there.
+-- And rule 3: a set or an arrival word has not its own number, and a word of a shard that the number does not touch is empty.
 use Prim.Native.Nat.{ℕ}
 use mathlib.Core.Bool.{Bool, not, _&&_, _||_}
 use lib.Dec.{eqb}

@@ -7,7 +7,10 @@ ghost use Rattle.masks.specs.Bits.{insert};
 ghost use Rattle.rules.specs.Pieces.{place, pieceKept, entryKept, piecesKept, tooMany, anyPieces, onShard, touches, shardsOf, piecesOn, samePiece, samePieces};
 use crate::Piece;
 use crate::Pieces;
-use crate::cluster::{KEYS, KINDS, PIECES, SHARDS};
+use crate::cluster::KEYS;
+use crate::cluster::KINDS;
+use crate::cluster::PIECES;
+use crate::cluster::SHARDS;
 
 // Where a piece stands in the order of pieces.
 pub fn place(p: Piece) -> u64
