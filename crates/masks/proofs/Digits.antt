@@ -24,10 +24,10 @@ shifted w t = and-mask (w / 2 ^ t) 1
 pub one-shifted : (t : ℕ) → t < 64 → 1 * 2 ^ t % 2 ^ 64 ≡ 2 ^ t
 one-shifted t h = shl-exact 1 t 64 (lit< tt) (omega arith) ∙ one-mul (2 ^ t)
 
-pub max-lt2 : (a b : ℕ) → a < 2 → b < 2 → max a b < 2
+max-lt2 : (a b : ℕ) → a < 2 → b < 2 → max a b < 2
 max-lt2 a b ha hb = omega arith
 
-pub min-lt2 : (a b : ℕ) → a < 2 → b < 2 → min a b < 2
+min-lt2 : (a b : ℕ) → a < 2 → b < 2 → min a b < 2
 min-lt2 a b ha hb = omega arith
 
 or-low : (a b : ℕ) → bitOr a b % 2 ≡ max (a % 2) (b % 2)

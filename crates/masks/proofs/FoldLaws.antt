@@ -4,9 +4,8 @@ use mathlib.Core.Logic.{_⊎_, inl, inr, ⊎-elim}
 use mathlib.Core.Bool.{Bool, true, false, not, cond, _&&_, _||_, and-true, and-false, or-false}
 use mathlib.Core.List.{List, [], _∷_, _++_}
 use Prim.Native.Nat.{ℕ, zero, suc, _+_, _-_, _^_, _≤_, _<_}
-use native.Mathlib.Nat.{lt-of-lt-of-le, lt-of-le-of-lt}
+use native.Mathlib.Nat.{lt-of-lt-of-le}
 use native.Mathlib.Decide.{decLt, ℕ-discrete}
-use native.Mathlib.Numerals.{add-one}
 use native.Mathlib.Omega.{arith}
 use borrow.Author.Tests.{eq-eqb, ne-eqb, lt-ltb, le-ltb, ltb-true}
 use lib.Dec.{eqb, ltb}
@@ -14,9 +13,9 @@ use lib.Pow.{pow-mono, pow-pos}
 use lib.ListN.{length, getD, length-append, List·getD-append}
 use lib.Seq.{getD-at, ext-getD}
 use Rattle.masks.specs.Bits.{has, In, none, insert, union, within}
-use Rattle.masks.specs.Folds.{allBelow, anyBelow, countBelow, maskOf, unionOf, least, tab, iter, over}
-use Rattle.masks.proofs.Bools.{or-no, or-no-l, or-no-r, or-yes, or-yes-l, or-yes-r, and-no-l, and-no-r, and-no, and-yes, and-yes-l, and-yes-r, not-and, not-or, not-yes, true-or-false, true-and-false, bool-ext}
-use Rattle.masks.proofs.Laws.{has-in, in-has, has-none, has-put, has-union, has-past, put-lt, union-lt, same-word, within-has, has-within}
+use Rattle.masks.specs.Folds.{allBelow, anyBelow, maskOf, unionOf, least, tab, iter, over}
+use Rattle.masks.proofs.Bools.{or-no, or-yes, or-yes-l, or-yes-r, and-yes, and-yes-l, and-yes-r, not-and, not-or, not-yes, true-or-false, true-and-false, bool-ext}
+use Rattle.masks.proofs.Laws.{has-in, in-has, has-none, has-put, has-union, put-lt, union-lt, same-word, within-has, has-within}
 
 -- a number below n + 1 is below n, or is n
 pub below-or-last : (i n : ℕ) → i < suc n → (i < n) ⊎ (i ≡ n)
