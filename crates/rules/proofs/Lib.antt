@@ -1,1 +1,2 @@
 pub mod NextIsSmallest
+pub mod Signs

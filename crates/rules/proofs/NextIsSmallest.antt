@@ -34,7 +34,7 @@ module _ (c n : ℕ) where
     none : c ≤ 7 → noNext c n ≡ true → nextRefusal c n ≡ 9 → nextBallot c n .ballot ≡ 0 → Outcome
     given : c ≤ 7 → noNext c n ≡ false → nextRefusal c n ≡ 0 → nextBallot c n .ballot ≡ nextAbove c n → Outcome
 
-  pub outcome : Outcome
+  outcome : Outcome
   unfolding nextBallot nextRefusal
   outcome = go (badCoordinator c) (noNext c n) refl refl
     where

@@ -3,13 +3,14 @@ use Prim.Native.Nat.{ℕ}
 use mathlib.Core.Bool.{Bool, not, _&&_}
 use lib.Dec.{eqb, ltb}
 use Rattle.masks.specs.Folds.{anyBelow}
+use Rattle.rules.specs.Cluster.{KEYS, PIECES}
 use Rattle.rules.specs.declared.Piece.{Piece}
 use Rattle.rules.specs.declared.Pieces.{Pieces}
 use Rattle.rules.specs.Pieces.{pieceAt, read, onShard}
 
 -- two pieces of one shard clash
 abbrev pub clash : Piece → Piece → Bool
-clash p q = ltb (p .key) 16 && eqb (p .key) (q .key) && not (eqb (p .kind) read && eqb (q .kind) read)
+clash p q = ltb (p .key) KEYS && eqb (p .key) (q .key) && not (eqb (p .kind) read && eqb (q .kind) read)
 
 -- the piece p and the piece j of b, at shard k
 unfoldable pub clashWith : ℕ → Piece → Pieces → ℕ → Bool
@@ -17,8 +18,8 @@ clashWith k p b j = onShard b k j && clash p (pieceAt b j)
 
 -- the piece i of a and any of b, at shard k
 unfoldable pub clashAny : ℕ → Pieces → Pieces → ℕ → Bool
-clashAny k a b i = onShard a k i && anyBelow (clashWith k (pieceAt a i) b) 8
+clashAny k a b i = onShard a k i && anyBelow (clashWith k (pieceAt a i) b) PIECES
 
 -- two transactions' pieces conflict at shard k
 unfoldable pub conflict : ℕ → Pieces → Pieces → Bool
-conflict k a b = anyBelow (clashAny k a b) 8
+conflict k a b = anyBelow (clashAny k a b) PIECES

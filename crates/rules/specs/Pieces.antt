@@ -6,6 +6,7 @@ use lib.Dec.{ltb, leb, eqb}
 use lib.ListN.{getD, replicate}
 use lib.IntN.{ℤ, pos, negsuc}
 use Rattle.masks.specs.Folds.{allBelow, anyBelow, countBelow, maskOf}
+use Rattle.rules.specs.Cluster.{SHARDS, KEYS, KINDS, PIECES}
 use Rattle.rules.specs.declared.Piece.{Piece}
 use Rattle.rules.specs.declared.Pieces.{Pieces}
 
@@ -13,7 +14,7 @@ abbrev pub noPiece : Piece
 noPiece = record { shard = 0; key = 0; kind = 0; operand = pos 0 }
 
 abbrev pub noPieces : Pieces
-noPieces = record { list = replicate 8 noPiece; count = 0 }
+noPieces = record { list = replicate PIECES noPiece; count = 0 }
 
 abbrev pub pieceAt : Pieces → ℕ → Piece
 pieceAt ps i = getD (ps .list) i noPiece
@@ -32,7 +33,7 @@ abbrev pub add : ℕ
 add = 2
 
 abbrev pub place : Piece → ℕ
-place p = 16 * p .shard + p .key
+place p = KEYS * p .shard + p .key
 
 unfoldable pub isZero : ℤ → Bool
 isZero (pos zero) = true
@@ -41,7 +42,7 @@ isZero (negsuc n) = false
 
 -- one piece: shards 0 to 3, keys 0 to 15, kinds 0 to 2, and a read has operand 0
 abbrev pub pieceKept : Piece → Bool
-pieceKept p = ltb (p .shard) 4 && ltb (p .key) 16 && ltb (p .kind) 3 && (not (eqb (p .kind) read) || isZero (p .operand))
+pieceKept p = ltb (p .shard) SHARDS && ltb (p .key) KEYS && ltb (p .kind) KINDS && (not (eqb (p .kind) read) || isZero (p .operand))
 
 -- the piece i keeps it, and stands after the one before it
 unfoldable pub entryKept : Pieces → ℕ → Bool
@@ -49,11 +50,11 @@ entryKept ps i = pieceKept (pieceAt ps i) && (eqb i 0 || ltb (place (pieceAt ps 
 
 -- 12: a count above 8
 abbrev pub tooMany : Pieces → Bool
-tooMany ps = ltb 8 (ps .count)
+tooMany ps = ltb PIECES (ps .count)
 
 -- rule 2 is kept
 unfoldable pub piecesKept : Pieces → Bool
-piecesKept ps = leb 1 (ps .count) && leb (ps .count) 8 && allBelow (entryKept ps) (ps .count)
+piecesKept ps = leb 1 (ps .count) && leb (ps .count) PIECES && allBelow (entryKept ps) (ps .count)
 
 -- the piece i is there, and on shard k
 unfoldable pub onShard : Pieces → ℕ → ℕ → Bool
@@ -61,15 +62,15 @@ onShard ps k i = ltb i (ps .count) && eqb (pieceAt ps i .shard) k
 
 -- T touches shard k
 unfoldable pub touches : Pieces → ℕ → Bool
-touches ps k = anyBelow (onShard ps k) 8
+touches ps k = anyBelow (onShard ps k) PIECES
 
 -- the shards that T touches, as a word
 unfoldable pub shardsOf : Pieces → ℕ
-shardsOf ps = maskOf (touches ps) 4
+shardsOf ps = maskOf (touches ps) SHARDS
 
 -- how many pieces T has on shard k
 unfoldable pub piecesOn : Pieces → ℕ → ℕ
-piecesOn ps k = countBelow (onShard ps k) 8
+piecesOn ps k = countBelow (onShard ps k) PIECES
 
 -- The same pieces: arrays up to their counts.
 unfoldable pub sameInt : ℤ → ℤ → Bool
@@ -85,4 +86,4 @@ unfoldable pub sameEntry : Pieces → Pieces → ℕ → Bool
 sameEntry a b i = leb (a .count) i || samePiece (pieceAt a i) (pieceAt b i)
 
 unfoldable pub samePieces : Pieces → Pieces → Bool
-samePieces a b = eqb (a .count) (b .count) && allBelow (sameEntry a b) 8
+samePieces a b = eqb (a .count) (b .count) && allBelow (sameEntry a b) PIECES

@@ -5,6 +5,7 @@ use mathlib.Core.Bool.{Bool, not, _&&_, _||_}
 use lib.Dec.{eqb}
 use Rattle.masks.specs.Bits.{has, union}
 use Rattle.masks.specs.Folds.{anyBelow, unionOf}
+use Rattle.rules.specs.Cluster.{SHARDS}
 use Rattle.rules.specs.declared.Set.{Set}
 use Rattle.rules.specs.Choice.{_if_else_}
 
@@ -21,7 +22,7 @@ setOf f = record { w0 = f 0; w1 = f 1; w2 = f 2; w3 = f 3 }
 
 -- all numbers of a set
 unfoldable pub members : Set → ℕ
-members v = unionOf (word v) 4
+members v = unionOf (word v) SHARDS
 
 -- what is in a or in b, shard by shard
 unfoldable pub unionSet : Set → Set → Set
@@ -39,4 +40,4 @@ badWordAt t touched v k = badWord t touched k (word v k)
 
 -- a set breaks rule 3
 unfoldable pub badSet : (t touched : ℕ) → Set → Bool
-badSet t touched v = anyBelow (badWordAt t touched v) 4
+badSet t touched v = anyBelow (badWordAt t touched v) SHARDS

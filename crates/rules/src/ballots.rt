@@ -1,11 +1,11 @@
 // Who may use which ballot, and the next one above a number.
 ghost use mathlib.Core.Path.{_≡_};
-ghost use Rattle.rules.specs.Ballots.{origin as theOrigin, badBallot, recoversWith, mayUse, nextAbove, noNext};
+ghost use Rattle.rules.specs.Ballots.{origin, badBallot, recoversWith, mayUse, nextAbove, noNext};
 use crate::Ballot;
 
 // The coordinator that the number `t` belongs to.
 pub fn origin(t: u32) -> u32
-    ensures { λ r. ⌜ r ≡ theOrigin t ⌝ }
+    ensures { λ r. ⌜ r ≡ origin t ⌝ }
 {
     t % Ballot::STEP
 }

@@ -1,27 +1,20 @@
+-- `rules::ballots::may_use` meets its contract. Assumes nothing.
 use borrow.Author.Tests.{eq-eqb, ne-eqb}
 use Rattle.rules.specs.Ballots.{mayUse}
 use borrow.Author.Needs.{needs}
 use Rattle.rules.proofs.ballots.may_use.Statement.{statement}
 use Rattle.rules.proofs.ballots.may_use.Tie as tie
-use Rattle.rules.proofs.ballots.may_use.Reads as reads
-use Rattle.rules.proofs.ballots.may_use.Lts as lts
-use Rattle.rules.proofs.ballots.origin.Reads as origin-reads
-use Rattle.rules.proofs.ballots.recovers_with.Reads as recovers-with-reads
 
--- src/ballots.rt:32:21
 origin-requires : tie.Need-origin-requires
 origin-requires c κs = search needs
 
--- src/ballots.rt:32:9
 returns : tie.Need-returns
 unfolding mayUse
 returns c = rw (eq-eqb _ _ (c .before .if1 .taken)) (cc)
 
--- src/ballots.rt:34:5
 recovers-with-requires : tie.Need-recovers-with-requires
 recovers-with-requires c κs = search needs
 
--- src/ballots.rt:28:1
 returns-2 : tie.Need-returns-2
 unfolding mayUse
 returns-2 c = rw (ne-eqb _ _ (c .before .if1 .left)) (c .recovers-with .ensures)

@@ -1,49 +1,38 @@
+-- `rules::ballots::next_above` meets its contract. Assumes nothing.
 use borrow.Author.Tests.{lt-ltb, le-ltb}
 use Rattle.rules.specs.Ballots.{nextAbove}
 use borrow.Author.Needs.{needs}
 use Rattle.rules.proofs.ballots.next_above.Statement.{statement}
 use Rattle.rules.proofs.ballots.next_above.Tie as tie
-use Rattle.rules.proofs.ballots.next_above.Reads as reads
-use Rattle.rules.proofs.ballots.next_above.Lts as lts
 
--- src/ballots.rt:43:16
 cast-step : tie.Need-cast-step
 cast-step c = search needs
 
--- src/ballots.rt:44:17
 cast-first : tie.Need-cast-first
 cast-first c = search needs
 
--- src/ballots.rt:44:17
 add-first : tie.Need-add-first
 add-first c = search needs
 
--- src/ballots.rt:46:9
 returns : tie.Need-returns
 unfolding nextAbove
 returns c = rw (lt-ltb _ _ (c .if1 .taken))
 
--- src/ballots.rt:48:20
 sub-result : tie.Need-sub-result
 sub-result c = search needs
 
--- src/ballots.rt:48:19
 div-result : tie.Need-div-result
 div-result c = search needs
 
--- src/ballots.rt:48:19
 add-result : tie.Need-add-result
 add-result c = search needs
 
--- src/ballots.rt:48:11
 mul-result : tie.Need-mul-result
 mul-result c = search needs
 
--- src/ballots.rt:48:5
 add-result-2 : tie.Need-add-result-2
 add-result-2 c = search needs
 
--- src/ballots.rt:38:1
 returns-2 : tie.Need-returns-2
 unfolding nextAbove
 returns-2 c = rw (le-ltb _ _ (c .if1 .left))

@@ -1,0 +1,134 @@
+// A transaction's pieces: rule 2, the shards that they touch, and whether two have the same.
+ghost use mathlib.Core.Path.{_≡_};
+ghost use mathlib.Core.Bool.{cond, _&&_};
+ghost use Prim.Native.Nat.{_+_, _<_};
+ghost use lib.Dec.{ltb};
+ghost use Rattle.masks.specs.Bits.{insert};
+ghost use Rattle.rules.specs.Pieces.{place, pieceKept, entryKept, piecesKept, tooMany, anyPieces, onShard, touches, shardsOf, piecesOn, samePiece, samePieces};
+use crate::Piece;
+use crate::Pieces;
+use crate::cluster::{KEYS, KINDS, PIECES, SHARDS};
+
+// Where a piece stands in the order of pieces.
+pub fn place(p: Piece) -> u64
+    ensures { λ r. ⌜ r ≡ place p ⌝ }
+{
+    (KEYS as u64) * (p.shard as u64) + (p.key as u64)
+}
+
+// The rule of one piece by itself.
+pub fn piece_kept(p: Piece) -> bool
+    ensures { λ r. ⌜ r ≡ pieceKept p ⌝ }
+{
+    (p.shard < SHARDS) & (p.key < KEYS) & (p.kind < KINDS) & ((p.kind != 0) | (p.operand == 0))
+}
+
+// Piece `i` keeps the rule, and stands after the one before it.
+pub fn entry_kept(ps: Pieces, i: usize) -> bool
+    requires { ⌜ i < 8 ⌝ }
+    ensures { λ r. ⌜ r ≡ entryKept ps i ⌝ }
+{
+    let p = ps.list[i];
+    let kept = piece_kept(p);
+    if i == 0 {
+        return kept;
+    }
+    let q = ps.list[i - 1];
+    kept & (place(q) < place(p))
+}
+
+// Rule 2 is kept.
+pub fn pieces_kept(ps: Pieces) -> bool
+    ensures { λ r. ⌜ r ≡ piecesKept ps ⌝ }
+{
+    let n = ps.count as usize;
+    let enough = (1 <= n) & (n <= PIECES);
+    if !enough {
+        return false;
+    }
+    let mut kept = true;
+    let mut i: usize = 0;
+    while i < n {
+        kept = kept & entry_kept(ps, i);
+        i += 1;
+    }
+    kept
+}
+
+pub fn too_many(ps: Pieces) -> bool
+    ensures { λ r. ⌜ r ≡ tooMany ps ⌝ }
+{
+    (PIECES as u32) < ps.count
+}
+
+// Pieces are held, or none.
+pub fn any_pieces(ps: Pieces) -> bool
+    ensures { λ r. ⌜ r ≡ anyPieces ps ⌝ }
+{
+    ps.count != 0
+}
+
+// Piece `i` is there, and on shard `k`.
+pub fn on_shard(ps: Pieces, k: u32, i: usize) -> bool
+    requires { ⌜ i < 8 ⌝ }
+    ensures { λ r. ⌜ r ≡ onShard ps k i ⌝ }
+{
+    let p = ps.list[i];
+    (i < ps.count as usize) & (p.shard == k)
+}
+
+// The transaction touches shard `k`.
+pub fn touches(ps: Pieces, k: u32) -> bool
+    ensures { λ r. ⌜ r ≡ touches ps k ⌝ }
+{
+    let mut hit = false;
+    let mut i: usize = 0;
+    while i < PIECES {
+        hit = hit | on_shard(ps, k, i);
+        i += 1;
+    }
+    hit
+}
+
+// One more where `b` says so.
+fn counted(many: u32, b: bool) -> u32
+    requires { ⌜ many < 8 ⌝ }
+    ensures { λ r. ⌜ r ≡ cond b (many + 1) many ⌝ }
+{
+    if b { many + 1 } else { many }
+}
+
+// How many pieces the transaction has on shard `k`.
+pub fn pieces_on(ps: Pieces, k: u32) -> u32
+    ensures { λ r. ⌜ r ≡ piecesOn ps k ⌝ }
+{
+    let mut many: u32 = 0;
+    let mut i: usize = 0;
+    while i < PIECES {
+        many = counted(many, on_shard(ps, k, i));
+        i += 1;
+    }
+    many
+}
+
+pub fn same_piece(p: Piece, q: Piece) -> bool
+    ensures { λ r. ⌜ r ≡ samePiece p q ⌝ }
+{
+    (p.shard == q.shard) & (p.key == q.key) & (p.kind == q.kind) & (p.operand == q.operand)
+}
+
+// The same pieces, up to their counts.
+pub fn same_pieces(a: Pieces, b: Pieces) -> bool
+    ensures { λ r. ⌜ r ≡ samePieces a b ⌝ }
+{
+    let n = a.count as usize;
+    let mut same = true;
+    let mut i: usize = 0;
+    while i < PIECES {
+        let p = a.list[i];
+        let q = b.list[i];
+        same = same & ((n <= i) | same_piece(p, q));
+        i += 1;
+    }
+    (a.count == b.count) & same
+}
