@@ -77,5 +77,5 @@ given-next c n e = go (outcome c n)
               coordinator = small;
               next = x;
               last = l;
-              own = rw (le-leb firstRecovery (nextAbove c n) (x .lawful), le-leb (nextAbove c n) lastBallot l, eq-eqb (nextAbove c n % step) c (x .own))
+              own = rw (le-leb firstRecovery (nextAbove c n) (x .lawful), le-leb (nextAbove c n) lastBallot l, eq-eqb (nextAbove c n % step) c (x .own));
             }

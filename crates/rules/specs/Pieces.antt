@@ -1,6 +1,7 @@
 -- "A transaction has 1 to 8 pieces, strictly rising by 16 × shard + key. A piece has shard, key, kind and signed operand."
 -- "Kinds: 0 read (operand must be 0; gives the value), 1 put (gives the operand), 2 add (gives the sum)."
-use Prim.Native.Nat.{ℕ, zero, suc, _+_, _*_, _-_}
+use Prim.Native.Nat.{ℕ, zero, suc, _+_, _*_, _-_, _<_}
+use mathlib.Core.Path.{_≡_}
 use mathlib.Core.Bool.{Bool, true, false, not, _&&_, _||_}
 use lib.Dec.{ltb, leb, eqb}
 use lib.ListN.{getD, replicate}
@@ -59,6 +60,12 @@ piecesKept ps = leb 1 (ps .count) && leb (ps .count) PIECES && allBelow (entryKe
 -- the piece i is there, and on shard k
 unfoldable pub onShard : Pieces → ℕ → ℕ → Bool
 onShard ps k i = ltb i (ps .count) && eqb (pieceAt ps i .shard) k
+
+-- the same in words
+pub record On (ps : Pieces) (k i : ℕ) : Type 0 where
+  pub below : i < PIECES
+  pub counted : i < ps .count
+  pub shard : pieceAt ps i .shard ≡ k
 
 -- T touches shard k
 unfoldable pub touches : Pieces → ℕ → Bool

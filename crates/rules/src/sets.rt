@@ -29,7 +29,12 @@ pub fn same_set(a: Set, b: Set) -> bool
 pub fn union_set(a: Set, b: Set) -> Set
     ensures { λ r. ⌜ r ≡ unionSet a b ⌝ }
 {
-    Set { w0: masks::union(a.w0, b.w0), w1: masks::union(a.w1, b.w1), w2: masks::union(a.w2, b.w2), w3: masks::union(a.w3, b.w3) }
+    Set {
+        w0: masks::union(a.w0, b.w0),
+        w1: masks::union(a.w1, b.w1),
+        w2: masks::union(a.w2, b.w2),
+        w3: masks::union(a.w3, b.w3),
+    }
 }
 
 // All numbers of a set.
@@ -50,5 +55,8 @@ pub fn bad_word(t: u32, touched: u64, k: u32, w: u64) -> bool
 pub fn bad_set(t: u32, touched: u64, v: Set) -> bool
     ensures { λ r. ⌜ r ≡ badSet t touched v ⌝ }
 {
-    bad_word(t, touched, 0, v.w0) | bad_word(t, touched, 1, v.w1) | bad_word(t, touched, 2, v.w2) | bad_word(t, touched, 3, v.w3)
+    bad_word(t, touched, 0, v.w0)
+        | bad_word(t, touched, 1, v.w1)
+        | bad_word(t, touched, 2, v.w2)
+        | bad_word(t, touched, 3, v.w3)
 }
