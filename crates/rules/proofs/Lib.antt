@@ -1,2 +1,4 @@
 pub mod NextIsSmallest
 pub mod Signs
+pub mod OnePass
+pub mod ConflictIs

@@ -1,12 +1,13 @@
 -- Document 01, "The cluster": two transactions conflict at a shard where both have a piece on one key there, and one of these two pieces is no read.
-use Prim.Native.Nat.{ℕ}
+use Prim.Native.Nat.{ℕ, _<_}
+use mathlib.Core.Path.{_≡_}
 use mathlib.Core.Bool.{Bool, not, _&&_}
 use lib.Dec.{eqb, ltb}
 use Rattle.masks.specs.Folds.{anyBelow}
 use Rattle.rules.specs.Cluster.{KEYS, PIECES}
 use Rattle.rules.specs.declared.Piece.{Piece}
 use Rattle.rules.specs.declared.Pieces.{Pieces}
-use Rattle.rules.specs.Pieces.{pieceAt, read, onShard}
+use Rattle.rules.specs.Pieces.{pieceAt, read, onShard, On}
 
 -- two pieces of one shard clash
 abbrev pub clash : Piece → Piece → Bool
@@ -23,3 +24,11 @@ clashAny k a b i = onShard a k i && anyBelow (clashWith k (pieceAt a i) b) PIECE
 -- two transactions' pieces conflict at shard k
 unfoldable pub conflict : ℕ → Pieces → Pieces → Bool
 conflict k a b = anyBelow (clashAny k a b) PIECES
+
+-- the sentence itself: the piece i of a and the piece j of b share a key at shard k, and are not both reads
+pub record Shares (k : ℕ) (a b : Pieces) (i j : ℕ) : Type 0 where
+  pub first : On a k i
+  pub second : On b k j
+  pub key : pieceAt a i .key < KEYS
+  pub shared : pieceAt a i .key ≡ pieceAt b j .key
+  pub writes : pieceAt a i .kind ≡ read → pieceAt b j .kind ≡ read → ⊥

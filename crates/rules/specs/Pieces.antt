@@ -1,5 +1,6 @@
 -- Document 01, "The cluster", pieces: the rule of one piece, the rule of a transaction's pieces (rule 2), the shards that they touch, and when two transactions have the same pieces.
-use Prim.Native.Nat.{ℕ, zero, suc, _+_, _*_, _-_}
+use Prim.Native.Nat.{ℕ, zero, suc, _+_, _*_, _-_, _<_}
+use mathlib.Core.Path.{_≡_}
 use mathlib.Core.Bool.{Bool, true, false, not, _&&_, _||_}
 use lib.Dec.{ltb, leb, eqb}
 use lib.ListN.{getD, replicate}
@@ -58,6 +59,12 @@ piecesKept ps = leb 1 (ps .count) && leb (ps .count) PIECES && allBelow (entryKe
 -- the piece i is there, and on shard k
 unfoldable pub onShard : Pieces → ℕ → ℕ → Bool
 onShard ps k i = ltb i (ps .count) && eqb (pieceAt ps i .shard) k
+
+-- the same in words
+pub record On (ps : Pieces) (k i : ℕ) : Type 0 where
+  pub below : i < PIECES
+  pub counted : i < ps .count
+  pub shard : pieceAt ps i .shard ≡ k
 
 -- T touches shard k
 unfoldable pub touches : Pieces → ℕ → Bool

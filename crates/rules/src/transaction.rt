@@ -1,7 +1,7 @@
 // A transaction's pieces: rule 2, the shards that they touch, and whether two have the same.
 ghost use mathlib.Core.Path.{_≡_};
 ghost use mathlib.Core.Bool.{cond, _&&_};
-ghost use Prim.Native.Nat.{_+_, _<_};
+ghost use Prim.Native.Nat.{_+_, _<_, _≤_};
 ghost use lib.Dec.{ltb};
 ghost use Rattle.masks.specs.Bits.{insert};
 ghost use Rattle.rules.specs.Pieces.{place, pieceKept, entryKept, piecesKept, tooMany, anyPieces, onShard, touches, shardsOf, piecesOn, samePiece, samePieces};
@@ -112,6 +112,34 @@ pub fn pieces_on(ps: Pieces, k: u32) -> u32
         i += 1;
     }
     many
+}
+
+// w and, where `b` says so and `t` is below `n`, t.
+pub fn put_below(w: u64, n: u32, t: u32, b: bool) -> u64
+    requires { ⌜ n ≤ 64 ⌝ }
+    ensures { λ r. ⌜ r ≡ cond (b && ltb t n) (insert w t) w ⌝ }
+{
+    let there = b & (t < n);
+    if there {
+        masks::insert(w, t as usize)
+    } else {
+        w
+    }
+}
+
+// The shards that the transaction touches, as a word.
+pub fn shards_of(ps: Pieces) -> u64
+    ensures { λ r. ⌜ r ≡ shardsOf ps ⌝ }
+{
+    let n = ps.count as usize;
+    let mut touched: u64 = 0;
+    let mut i: usize = 0;
+    while i < PIECES {
+        let p = ps.list[i];
+        touched = put_below(touched, SHARDS, p.shard, i < n);
+        i += 1;
+    }
+    touched
 }
 
 pub fn same_piece(p: Piece, q: Piece) -> bool
