@@ -12,12 +12,12 @@ use lib.ListN.{getD}
 use Rattle.masks.specs.Bits.{In, has, union}
 use Rattle.masks.specs.Folds.{maskOf}
 use Rattle.masks.proofs.Bools.{and-yes, and-yes-l, and-yes-r, or-yes, or-yes-l, or-yes-r}
-use Rattle.masks.proofs.Laws.{in-or-left, in-or-right, in-or-cases, has-in, in-has}
+use Rattle.masks.proofs.Laws.{in-or-left, in-or-right, in-or-cases, has-in, in-has, same}
 use Rattle.masks.proofs.FoldLaws.{has-mask, has-mask-below, mask-bound}
 use Rattle.graph.specs.Before.{Before, direct, Closed, Ready}
 use Rattle.graph.specs.Walk.{rowsOf, before, joins, group}
 use Rattle.graph.proofs.Rows.{Words, trans, before-is, is-before, before-dec, before-lt}
-use Rattle.graph.proofs.Commits.{Grown, closed-behind, was-before, direct-behind}
+use Rattle.graph.proofs.Commits.{Grown, closed-behind, still-before, was-before, direct-behind}
 
 -- what ran is committed, and all before it ran too
 pub record Kept (deps : List ℕ) (committed ran : ℕ) : Type 0 where
@@ -94,3 +94,22 @@ module _ (deps : List ℕ) (w : Words deps) where
             (λ g. ⊎-elim (in-or-left (group (rowsOf deps) t)) (in-or-right ran) (group-behind u v g b))
             (in-or-cases ran (group (rowsOf deps) t) i);
       }
+
+-- ---- more commits leave the group of a closed number as it is
+module _ {deps deps′ : List ℕ} {committed committed′ t : ℕ} (w : Words deps) (w′ : Words deps′) (g : Grown deps deps′ committed committed′)
+    (c : Closed deps committed t) (small : t < 64) where
+  pub group-grown : group (rowsOf deps′) t ≡ group (rowsOf deps) t
+  group-grown = same 64 (group (rowsOf deps′) t) (group (rowsOf deps) t) (group-lt (rowsOf deps′) t) (group-lt (rowsOf deps) t) was still
+    where
+      itself : (rows : List ℕ) {u : ℕ} → u ≡ t → In (group rows t) u
+      itself rows e = subst (λ (x : ℕ). In (group rows t) x) (sym e) (group-self rows t small)
+
+      was : (u : ℕ) → In (group (rowsOf deps′) t) u → In (group (rowsOf deps) t) u
+      was u i =
+          ⊎-elim (itself (rowsOf deps))
+          (λ b. let d = was-before g c (b .0) in group-both deps w d (was-before g (closed-behind c d) (b .1))) (group-of deps′ w′ t u i)
+
+      still : (u : ℕ) → In (group (rowsOf deps) t) u → In (group (rowsOf deps′) t) u
+      still u i =
+          ⊎-elim (itself (rowsOf deps′))
+          (λ b. group-both deps′ w′ (still-before g c (b .0)) (still-before g (closed-behind c (b .0)) (b .1))) (group-of deps w t u i)

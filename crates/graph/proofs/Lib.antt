@@ -6,3 +6,4 @@ pub mod Computed
 pub mod Commits
 pub mod Progress
 pub mod Groups
+pub mod NextGroups
