@@ -1,4 +1,9 @@
+pub mod Servers
 pub mod NextIsSmallest
+pub mod BallotOwners
 pub mod Signs
 pub mod OnePass
 pub mod ConflictIs
+pub mod SamePieces
+pub mod PiecesKept
+pub mod SetLaws
