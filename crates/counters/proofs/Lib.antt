@@ -1,2 +1,3 @@
 pub mod Signed
 pub mod Results
+pub mod PerKey
