@@ -1,0 +1,24 @@
+-- Document 01, "Running": what a run and the wanted set ask of the records, each in one pass over them.
+use Prim.Native.Nat.{ℕ}
+use Rattle.masks.specs.Bits.{without}
+use Rattle.rules.specs.Choice.{_if_else_}
+use Rattle.rules.specs.Flags.{there}
+use Rattle.rules.specs.Sets.{noSet}
+use Rattle.rules.specs.declared.Set.{Set}
+use Rattle.rules.specs.declared.MaybeSet.{MaybeSet}
+use Rattle.server.specs.declared.Server.{Server}
+use Rattle.server.specs.Held.{committedWord, ranWord}
+use Rattle.server.specs.Run.{depsOf}
+use Rattle.server_run.specs.declared.Survey.{Survey}
+
+-- the set that is committed, or nothing
+unfoldable pub named : MaybeSet → Set
+named c = c .set if there (c .some) else noSet
+
+-- the direct dependencies of each number, the committed numbers, and those that have run
+abbrev pub gathered : Server → Survey
+gathered s = record { deps = depsOf s; committed = committedWord s; ran = ranWord s }
+
+-- what is in v and not in w, shard by shard
+abbrev pub setWithout : Set → ℕ → Set
+setWithout v w = record { w0 = without (v .w0) w; w1 = without (v .w1) w; w2 = without (v .w2) w; w3 = without (v .w3) w }
