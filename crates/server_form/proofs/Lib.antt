@@ -1,0 +1,3 @@
+pub mod FormInOnePass
+pub mod TouchedWord
+pub mod NumberParts
