@@ -62,11 +62,11 @@ piece-key p e x h = put-at (e .counters) (p .key) x _ h ∙ own (eqb (p .key) x)
     own false q = refl
 
 -- the results with that of p
-abbrev valueGiven : Piece → Executed → Values
+abbrev pub valueGiven : Piece → Executed → Values
 valueGiven p e = withValue (e .values) (effect (p .kind) (p .operand) (counterAt (e .counters) (p .key)) .result)
 
 -- as a transaction begins
-abbrev begun : Counters → Executed
+abbrev pub begun : Counters → Executed
 begun c = record { counters = c; values = noValues }
 
 module _ (ps : Pieces) (k : ℕ) where
@@ -79,7 +79,7 @@ module _ (ps : Pieces) (k : ℕ) where
       go true = length-set (e .counters .list) (pieceAt ps i .key) _
       go false = refl
 
-  entry-values : (i : ℕ) (e : Executed) → runEntry ps k i e .values ≡ cond (onShard ps k i) (valueGiven (pieceAt ps i) e) (e .values)
+  pub entry-values : (i : ℕ) (e : Executed) → runEntry ps k i e .values ≡ cond (onShard ps k i) (valueGiven (pieceAt ps i) e) (e .values)
   unfolding runEntry runPiece
   entry-values i e = go (onShard ps k i)
     where
@@ -106,7 +106,7 @@ module _ (ps : Pieces) (k : ℕ) where
         go true = piece-key (pieceAt ps i) e x h
         go false = refl
 
-    key-after : (e : Executed) (n : ℕ) → x < length (e .counters .list)
+    pub key-after : (e : Executed) (n : ℕ) → x < length (e .counters .list)
         → counterAt (iter (runEntry ps k) e n .counters) x ≡ iter (keyEntry ps k x) (counterAt (e .counters) x) n
     unfolding iter
     key-after e zero h = refl

@@ -30,7 +30,7 @@ module _ (ps : Pieces) (k : ℕ) where
       go true = omega arith
       go false = omega arith
 
-  count-after : (n : ℕ) (e : Executed) → e .values .count ≡ 0 → iter (runEntry ps k) e n .values .count ≡ countBelow (onShard ps k) n
+  pub count-after : (n : ℕ) (e : Executed) → e .values .count ≡ 0 → iter (runEntry ps k) e n .values .count ≡ countBelow (onShard ps k) n
   unfolding iter countBelow
   count-after zero e z = z
   count-after (suc n) e z =
