@@ -12,7 +12,7 @@ use lib.IntN.{ℤ}
 use lib.ListN.{length, getD, set, length-set, List·getD-eq-default}
 use lib.Seq.{getD-set-same, getD-set-other}
 use Rattle.masks.specs.Folds.{iter}
-use Rattle.masks.proofs.Bools.{and-yes-l, and-yes-r, true-or-false}
+use Rattle.masks.proofs.Bools.{and-yes-l, and-yes-r}
 use Rattle.masks.proofs.FoldLaws.{iter-keeps}
 use Rattle.rules.specs.declared.Piece.{Piece}
 use Rattle.rules.specs.declared.Pieces.{Pieces}

@@ -3,12 +3,12 @@
 -- Assumes nothing.
 use mathlib.Core.Path.{_≡_, refl, sym, ap, _∙_, subst}
 use mathlib.Core.Bool.{Bool, true, false, cond, _&&_}
-use Prim.Native.Nat.{ℕ, zero, suc, _+_, _≤_, _<_}
+use Prim.Native.Nat.{ℕ, zero, suc, _+_, _<_}
 use native.Mathlib.Decide.{ℕ-discrete}
 use native.Mathlib.Omega.{arith}
-use borrow.Author.Tests.{eq-eqb, ne-eqb, eqb-true}
+use borrow.Author.Tests.{eq-eqb, eqb-true}
 use lib.Dec.{eqb}
-use lib.ListN.{length, getD, set, length-set}
+use lib.ListN.{length, getD, length-set}
 use lib.Seq.{getD-set-same, getD-set-other}
 use Rattle.masks.specs.Folds.{iter, countBelow}
 use Rattle.masks.proofs.Bools.{and-yes-l, and-yes-r}
@@ -19,13 +19,13 @@ use Rattle.rules.specs.declared.Pieces.{Pieces}
 use Rattle.rules.specs.declared.Value.{Value}
 use Rattle.rules.specs.declared.Values.{Values}
 use Rattle.rules.specs.Pieces.{pieceAt, onShard, On}
-use Rattle.rules.specs.Values.{noValue, noValues}
+use Rattle.rules.specs.Values.{noValue}
 use Rattle.rules.proofs.ConflictIs.{on-is, is-on}
 use Rattle.rules.proofs.PiecesKept.{Kept, kept-apart}
 use Rattle.counters.specs.declared.Counter.{Counter}
 use Rattle.counters.specs.declared.Counters.{Counters}
 use Rattle.counters.specs.declared.Executed.{Executed}
-use Rattle.counters.specs.Effects.{counterAt, effect, runPiece, runEntry, execute}
+use Rattle.counters.specs.Effects.{counterAt, effect, runEntry, execute}
 use Rattle.counters.proofs.Results.{count-after}
 use Rattle.counters.proofs.PerKey.{begun, keyEntry, keyEffect, entry-values, key-after, valueGiven}
 

@@ -6,7 +6,7 @@ use mathlib.Core.List.{List}
 use Prim.Native.Nat.{ℕ}
 use lib.ListN.{getD}
 use Rattle.masks.specs.Bits.{In}
-use Rattle.graph.specs.Before.{Before, direct, behind, Closed, Ready}
+use Rattle.graph.specs.Before.{Before, direct, behind, Closed}
 use Rattle.graph.proofs.Rows.{trans}
 
 -- ---- a closed number

@@ -1,22 +1,21 @@
 -- The tests `closed` and `ready` and the search, on the rows, say Closed, Ready and First of the dependency words, and back.
 -- Assumes nothing.
 use mathlib.Core.Path.{_≡_, refl, sym, ap, _∙_}
-use mathlib.Core.Logic.{⊎-elim}
 use mathlib.Core.Bool.{Bool, true, false, not, _&&_}
 use mathlib.Core.List.{List}
-use Prim.Native.Nat.{ℕ, _<_, _≤_, _^_}
+use Prim.Native.Nat.{ℕ, _<_, _^_}
 use native.Mathlib.Decide.{decLt}
 use native.Mathlib.Omega.{arith}
 use lib.ListN.{getD}
 use Rattle.masks.specs.Bits.{In, has, within}
-use Rattle.masks.specs.Folds.{anyBelow, least}
+use Rattle.masks.specs.Folds.{anyBelow}
 use Rattle.masks.proofs.Bools.{and-yes, and-yes-l, and-yes-r, not-yes, true-and-false, not-true-false}
-use Rattle.masks.proofs.Laws.{has-in, in-has, not-has, has-not, within-sub, sub-within, in-lt}
+use Rattle.masks.proofs.Laws.{has-in, in-has, not-has, within-sub, sub-within, in-lt}
 use Rattle.masks.proofs.FoldLaws.{any-no, no-any, least-le, least-at, least-below}
 use Rattle.graph.specs.Before.{Before, Closed, Ready, First}
 use Rattle.graph.specs.Walk.{rowsOf, before, closed, awaited, ready, firstReady}
-use Rattle.graph.proofs.Rows.{Words, rows-words, row-before, before-row, before-is, is-before, before-dec, before-lt}
-use Rattle.graph.proofs.Waiting.{closed-word, ready-word}
+use Rattle.graph.proofs.Rows.{Words, rows-words, row-before, before-row, before-is, is-before, before-lt}
+use Rattle.graph.proofs.Waiting.{closed-word}
 
 module _ (deps : List ℕ) (w : Words deps) where
   module _ (committed t : ℕ) where

@@ -1,20 +1,19 @@
 -- The group of a number: it and all that are before it and after it both. None of a ready number's group has run, and a run of it leaves a log that is
 -- committed and has with each number all before it.
 -- Assumes nothing.
-use mathlib.Core.Path.{_≡_, refl, sym, ap, _∙_, subst}
+use mathlib.Core.Path.{_≡_, refl, sym, _∙_, subst}
 use mathlib.Core.Logic.{_⊎_, inl, inr, ⊎-elim}
-use mathlib.Core.Bool.{Bool, true, _&&_, _||_}
+use mathlib.Core.Bool.{_&&_, _||_}
 use mathlib.Core.List.{List}
 use Prim.Native.Nat.{ℕ, _^_, _<_}
 use borrow.Author.Tests.{eqb-true, eq-eqb}
 use lib.Dec.{eqb, ltb}
 use lib.ListN.{getD}
-use Rattle.masks.specs.Bits.{In, has, union}
-use Rattle.masks.specs.Folds.{maskOf}
+use Rattle.masks.specs.Bits.{In, union}
 use Rattle.masks.proofs.Bools.{and-yes, and-yes-l, and-yes-r, or-yes, or-yes-l, or-yes-r}
 use Rattle.masks.proofs.Laws.{in-or-left, in-or-right, in-or-cases, has-in, in-has, same}
 use Rattle.masks.proofs.FoldLaws.{has-mask, has-mask-below, mask-bound}
-use Rattle.graph.specs.Before.{Before, direct, Closed, Ready}
+use Rattle.graph.specs.Before.{Before, Closed, Ready}
 use Rattle.graph.specs.Walk.{rowsOf, before, joins, group}
 use Rattle.graph.proofs.Rows.{Words, trans, before-is, is-before, before-dec, before-lt}
 use Rattle.graph.proofs.Commits.{Grown, closed-behind, still-before, was-before, direct-behind}

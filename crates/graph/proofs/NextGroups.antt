@@ -1,22 +1,24 @@
 -- What runs next, as a word: the group of a ready number, none of which has run, or nothing, and then no closed number is left unrun.
 -- Assumes nothing.
-use mathlib.Core.Path.{_≡_, refl, sym, ap, _∙_, subst}
-use mathlib.Core.Bool.{Bool, true, false, cond}
+use mathlib.Core.Path.{_≡_, sym, ap, _∙_, subst}
+use mathlib.Core.Bool.{Bool, cond}
 use mathlib.Core.List.{List}
-use Prim.Native.Nat.{ℕ, _^_, _<_, _≤_}
-use native.Mathlib.Decide.{decLt}
+use Prim.Native.Nat.{ℕ, _+_, _^_, _<_, _≤_}
+use native.Mathlib.Decide.{decLt, ℕ-discrete}
 use native.Mathlib.Omega.{arith}
 use borrow.Author.Tests.{lt-ltb, le-ltb}
-use lib.Dec.{ltb, lit<}
+use lib.Dec.{lit<}
 use lib.Bits.{or-zero-r}
 use Rattle.masks.specs.Bits.{In, none, union}
+use Rattle.masks.specs.Folds.{size}
 use Rattle.masks.proofs.Laws.{not-in-none}
-use Rattle.graph.specs.Before.{Before, Closed, Ready}
+use Rattle.masks.proofs.Counts.{size-apart, size-le, size-zero}
+use Rattle.graph.specs.Before.{Closed, Ready}
 use Rattle.graph.specs.Walk.{rowsOf, firstReady, group, groupAt, nextGroup}
 use Rattle.graph.proofs.Rows.{Words}
 use Rattle.graph.proofs.Computed.{first-is}
 use Rattle.graph.proofs.Progress.{all-run}
-use Rattle.graph.proofs.Groups.{Kept, group-lt, group-self, group-closed, group-behind, group-new, run-keeps}
+use Rattle.graph.proofs.Groups.{Kept, group-lt, group-self, group-closed, group-new, run-keeps}
 
 or-nothing : (a : ℕ) → union a none ≡ a
 unfolding union
@@ -91,3 +93,18 @@ module _ (deps : List ℕ) (w : Words deps) (committed ran : ℕ) where
         go : Dec (firstReady (rowsOf deps) committed ran < 64) → Kept deps committed (union ran (nextGroup (rowsOf deps) committed ran))
         go (yes h) = let r = next-first h in rw (r .whole) (run-keeps deps w (r .ready) kept)
         go (no h) = rw (next-nothing (omega (arith, h)), or-nothing) kept
+
+    -- so it adds as many as it has, and there is room for them
+    pub next-adds : size (union ran (nextGroup (rowsOf deps) committed ran)) ≡ size ran + size (nextGroup (rowsOf deps) committed ran)
+    next-adds = size-apart ran (nextGroup (rowsOf deps) committed ran) (λ t i j. next-new t j i)
+
+    pub next-room : size ran + size (nextGroup (rowsOf deps) committed ran) ≤ 64
+    next-room = omega (arith, next-adds, size-le (union ran (nextGroup (rowsOf deps) committed ran)))
+
+  -- what runs is something, or nothing is ready
+  pub next-some : (nextGroup (rowsOf deps) committed ran ≡ none → ⊥) → 0 < size (nextGroup (rowsOf deps) committed ran)
+  next-some n = go (ℕ-discrete (size (nextGroup (rowsOf deps) committed ran)) 0)
+    where
+      go : Dec (size (nextGroup (rowsOf deps) committed ran) ≡ 0) → 0 < size (nextGroup (rowsOf deps) committed ran)
+      go (yes e) = absurd (n (size-zero (nextGroup (rowsOf deps) committed ran) next-lt e))
+      go (no d) = omega (arith, d)

@@ -8,7 +8,7 @@ use native.Mathlib.Nat.{not-suc-le-zero, lt-of-lt-of-le, le-of-suc-le-suc, le-re
 use lib.ListN.{getD}
 use Rattle.masks.specs.Bits.{In, insert}
 use Rattle.masks.proofs.Laws.{in-dec, in-insert-old, in-insert-new, in-insert-cases, insert-lt, part-lt}
-use Rattle.graph.specs.Before.{Before, Closed, Ready, First}
+use Rattle.graph.specs.Before.{Before, Closed, Ready}
 use Rattle.graph.specs.Walk.{rowsOf, firstReady}
 use Rattle.graph.proofs.Rows.{Words, trans, rows-words, row-before, before-row, before-lt}
 use Rattle.graph.proofs.Computed.{first-is, ready-lt}

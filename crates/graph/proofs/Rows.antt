@@ -4,11 +4,11 @@ use mathlib.Core.Path.{_≡_, refl, sym, ap, _∙_, subst}
 use mathlib.Core.Logic.{_⊎_, inl, inr, ⊎-elim}
 use mathlib.Core.Bool.{Bool, true, false, cond}
 use mathlib.Core.List.{List, map}
-use Prim.Native.Nat.{ℕ, zero, suc, _^_, _≤_, _<_}
+use Prim.Native.Nat.{ℕ, zero, suc, _^_, _<_}
 use native.Mathlib.Nat.{not-suc-le-zero}
 use native.Mathlib.Decide.{ℕ-discrete}
 use native.Mathlib.Omega.{arith}
-use lib.ListN.{length, getD, List·getD-map, length-map}
+use lib.ListN.{getD, List·getD-map}
 use Rattle.masks.specs.Bits.{In, has, union}
 use Rattle.masks.proofs.Laws.{in-dec, in-or-left, in-or-right, in-or-cases, union-lt, in-lt, has-in, in-has, not-has, not-in-none}
 use Rattle.graph.specs.Before.{Before, direct, behind}

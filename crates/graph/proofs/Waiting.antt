@@ -7,7 +7,7 @@ use Prim.Native.Nat.{ℕ, _<_, _^_}
 use lib.ListN.{getD}
 use Rattle.masks.specs.Bits.{has, within}
 use Rattle.masks.specs.Folds.{anyBelow}
-use Rattle.masks.proofs.Bools.{and-yes, and-yes-l, and-yes-r, and-no-l, and-no-r, not-yes, bool-ext, true-and-false, not-true-false, true-or-false}
+use Rattle.masks.proofs.Bools.{and-yes, and-no-l, and-no-r, not-yes, bool-ext, true-and-false}
 use Rattle.masks.proofs.Laws.{within-has, has-within}
 use Rattle.masks.proofs.FoldLaws.{any-no, no-any}
 use Rattle.graph.specs.Walk.{before, missing, closed, awaited, ready}

@@ -1,6 +1,6 @@
 -- `counters::added` meets its contract: the sum in 64 bits is the sum, and it is in the range exactly if it fits 32.
 -- Assumes nothing.
-use mathlib.Core.Path.{_≡_, sym, subst, ap, ap₂, _∙_}
+use mathlib.Core.Path.{sym, subst, ap, ap₂, _∙_}
 use lib.IntN.{ℤ, _+ℤ_}
 use mir.Syntax.{w32, w64}
 use mir.Val.{SFits, ofZ, toZ}
@@ -10,27 +10,19 @@ use Rattle.counters.proofs.Signed.{back, wide, summed, sum-fits, in-ran
 use borrow.Author.Needs.{needs}
 use Rattle.counters.proofs.added.Statement.{statement}
 use Rattle.counters.proofs.added.Tie as tie
-use Rattle.counters.proofs.added.Reads as reads
-use Rattle.counters.proofs.added.Lts as lts
-use Rattle.counters.proofs.gives.Reads as gives-reads
 
--- src/lib.rt:52:16
 cast-sum : tie.Need-cast-sum
 cast-sum c = subst (SFits w64) (sym (back _ (c .fits .old))) (sfits-widen tt (c .fits .old))
 
--- src/lib.rt:52:31
 cast-sum-2 : tie.Need-cast-sum-2
 cast-sum-2 c = subst (SFits w64) (sym (back _ (c .fits .n))) (sfits-widen tt (c .fits .n))
 
--- src/lib.rt:52:15
 add-sum : tie.Need-add-sum
 add-sum c = subst (SFits w64) (sym (ap₂ _+ℤ_ (wide _ (c .fits .old)) (wide _ (c .fits .n)))) (sum-fits _ _ (c .fits .old) (c .fits .n))
 
--- src/lib.rt:54:9
 gives-requires : tie.Need-gives-requires
 gives-requires c κs = search needs
 
--- src/lib.rt:54:9
 returns : tie.Need-returns
 unfolding added leaves
 returns c =
@@ -38,7 +30,6 @@ returns c =
     let t = rw (summed _ _ (start .fits .old) (start .fits .n)) at (c .before .if1 .taken) in
     rw t (c .gives .ensures ∙ ap (λ (z : ℤ). gives z 1) (back _ (start .fits .old)))
 
--- src/lib.rt:56:11
 cast-gives : tie.Need-cast-gives
 unfolding leaves
 cast-gives c =
@@ -46,11 +37,9 @@ cast-gives c =
     let t = rw e at (c .if1 .left) in
     subst (SFits w32) (sym e) (in-range _ t)
 
--- src/lib.rt:56:5
 gives-requires-2 : tie.Need-gives-requires-2
 gives-requires-2 c κs = search needs
 
--- src/lib.rt:49:1
 returns-2 : tie.Need-returns-2
 unfolding added leaves
 returns-2 c =

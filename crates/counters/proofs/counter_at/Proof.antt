@@ -7,22 +7,16 @@ use Rattle.counters.specs.Effects.{zeroed}
 use borrow.Author.Needs.{needs}
 use Rattle.counters.proofs.counter_at.Statement.{statement}
 use Rattle.counters.proofs.counter_at.Tie as tie
-use Rattle.counters.proofs.counter_at.Reads as reads
-use Rattle.counters.proofs.counter_at.Lts as lts
 
--- src/lib.rt:81:16
 mul-result : tie.Need-mul-result
 mul-result c = search needs
 
--- src/lib.rt:81:16
 element-copy-out-result : tie.Need-element-copy-out-result
 element-copy-out-result c = search needs
 
--- src/lib.rt:81:9
 returns : tie.Need-returns
 returns c = search needs
 
--- src/lib.rt:76:1
 returns-2 : tie.Need-returns-2
 returns-2 c =
     let list = c .before .args .t1 .list in

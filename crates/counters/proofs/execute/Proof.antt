@@ -1,7 +1,7 @@
 -- `counters::execute` meets its contract: after i turns the first i pieces have run, and there are at most i results.
 -- Assumes nothing.
 use mathlib.Core.Path.{_≡_, ap, _∙_}
-use Prim.Native.Nat.{ℕ, _-_, _≤_}
+use Prim.Native.Nat.{_-_, _≤_}
 use native.Mathlib.Omega.{arith}
 use borrow.Author.Needs.{needs}
 use Rattle.masks.specs.Folds.{iter}
@@ -10,10 +10,6 @@ use Rattle.counters.specs.Effects.{runEntry, execute}
 use Rattle.counters.proofs.Results.{entry-count}
 use Rattle.counters.proofs.execute.Statement.{statement}
 use Rattle.counters.proofs.execute.Tie as tie
-use Rattle.counters.proofs.execute.Reads as reads
-use Rattle.counters.proofs.execute.Lts as lts
-use Rattle.counters.proofs.no_values.Reads as no-values-reads
-use Rattle.counters.proofs.run_entry.Reads as run-entry-reads
 
 abbrev Inv-loop : tie.InvT-loop
 Inv-loop ps k e₀ i₀ e i = (i ≤ 8) × (e .values .count ≤ i) × (e ≡ iter (runEntry ps k) e₀ i)
@@ -21,27 +17,21 @@ Inv-loop ps k e₀ i₀ e i = (i ≤ 8) × (e .values .count ≤ i) × (e ≡ it
 abbrev μ-loop : tie.MeasureT-loop
 μ-loop ps k e₀ i₀ e i = 8 - i
 
--- src/lib.rt:150:9
 no-values-requires : tie.Need-no-values-requires Inv-loop μ-loop
 no-values-requires c κs = search needs
 
--- src/lib.rt:156:5
 loop-holds : tie.Need-loop-holds Inv-loop μ-loop
 loop-holds c = (search needs, rw (c .no-values .ensures) (search needs), iter-none _ _)
 
--- src/lib.rt:157:13
 run-entry-requires : tie.Need-run-entry-requires Inv-loop μ-loop
 run-entry-requires c κs = search needs
 
--- src/lib.rt:159:9
 add-i : tie.Need-add-i Inv-loop μ-loop
 add-i c = search needs
 
--- src/lib.rt:156:5
 loop-less : tie.Need-loop-less Inv-loop μ-loop
 loop-less c = search needs
 
--- src/lib.rt:156:5
 loop-again : tie.Need-loop-again Inv-loop μ-loop
 loop-again c =
     let at-loop = c .before .before in (
@@ -50,7 +40,6 @@ loop-again c =
       rw iter-step (c .run-entry .ensures ∙ ap (runEntry _ _ _) (at-loop .loop .inv .2)),
     )
 
--- src/lib.rt:147:1
 returns : tie.Need-returns Inv-loop μ-loop
 unfolding execute
 returns c =

@@ -7,22 +7,16 @@ use lib.Seq.{set-out}
 use borrow.Author.Needs.{needs}
 use Rattle.counters.proofs.put_counter.Statement.{statement}
 use Rattle.counters.proofs.put_counter.Tie as tie
-use Rattle.counters.proofs.put_counter.Reads as reads
-use Rattle.counters.proofs.put_counter.Lts as lts
 
--- src/lib.rt:94:9
 mul-x : tie.Need-mul-x
 mul-x c = search needs
 
--- src/lib.rt:94:9
 element-set-from-x : tie.Need-element-set-from-x
 element-set-from-x c = search needs
 
--- src/lib.rt:95:9
 returns : tie.Need-returns
 returns c = search needs
 
--- src/lib.rt:88:1
 returns-2 : tie.Need-returns-2
 returns-2 c =
     let list = c .before .args .c .list in

@@ -5,30 +5,19 @@ use Rattle.counters.proofs.Signed.{back}
 use borrow.Author.Needs.{needs}
 use Rattle.counters.proofs.run_piece.Statement.{statement}
 use Rattle.counters.proofs.run_piece.Tie as tie
-use Rattle.counters.proofs.run_piece.Reads as reads
-use Rattle.counters.proofs.run_piece.Lts as lts
-use Rattle.counters.proofs.counter_at.Reads as counter-at-reads
-use Rattle.counters.proofs.effect.Reads as effect-reads
-use Rattle.counters.proofs.put_counter.Reads as put-counter-reads
-use Rattle.counters.proofs.put_value.Reads as put-value-reads
 
--- src/lib.rt:124:9
 counter-at-requires : tie.Need-counter-at-requires
 counter-at-requires c κs = search needs
 
--- src/lib.rt:125:9
 effect-requires : tie.Need-effect-requires
 effect-requires c κs = search needs
 
--- src/lib.rt:126:9
 put-counter-requires : tie.Need-put-counter-requires
 put-counter-requires c κs = search needs
 
--- src/lib.rt:127:9
 put-value-requires : tie.Need-put-value-requires
 put-value-requires c κs = search needs
 
--- src/lib.rt:120:1
 returns : tie.Need-returns
 unfolding runPiece
 returns c =

@@ -7,8 +7,7 @@ use Prim.Native.Nat.{ℕ, _-_, _≤_, _<_}
 use native.Mathlib.Omega.{arith}
 use borrow.Author.Needs.{needs}
 use borrow.Author.Count.{below-none, below-more}
-use lib.ListN.{getD}
-use Rattle.masks.specs.Folds.{anyBelow, least}
+use Rattle.masks.specs.Folds.{anyBelow}
 use Rattle.masks.proofs.Bools.{or-no}
 use Rattle.masks.proofs.Turns.{any-none, any-step}
 use Rattle.masks.proofs.FoldLaws.{any-of, found-least, least-all-no}
@@ -17,10 +16,6 @@ use Rattle.graph.proofs.Arrays.{words}
 use Rattle.graph.proofs.Waiting.{not-waiting, still-awaiting, nothing-awaited}
 use Rattle.graph.proofs.first_ready.Statement.{statement}
 use Rattle.graph.proofs.first_ready.Tie as tie
-use Rattle.graph.proofs.first_ready.Reads as reads
-use Rattle.graph.proofs.first_ready.Lts as lts
-use Rattle.graph.proofs.awaits.Reads as awaits-reads
-use Rattle.graph.proofs.waits.Reads as waits-reads
 
 abbrev Inv-loop : tie.InvT-loop
 Inv-loop committed ran rows t row u₀ u = (u ≤ 64) × (anyBelow (awaited rows ran t) u ≡ false)
@@ -34,62 +29,48 @@ Inv-search committed ran rows t₀ t = (t ≤ 64) × ((k : ℕ) → k < t → re
 abbrev μ-search : tie.MeasureT-search
 μ-search committed ran rows t₀ t = 64 - t
 
--- src/lib.rt:60:9
 search-holds : tie.Need-search-holds Inv-loop μ-loop Inv-search μ-search
 search-holds c = (search needs, below-none _)
 
--- src/lib.rt:64:19
 mul-row : tie.Need-mul-row Inv-loop μ-loop Inv-search μ-search
 mul-row c = omega arith
 
--- src/lib.rt:64:19
 array-read-row : tie.Need-array-read-row Inv-loop μ-loop Inv-search μ-search
 array-read-row c = omega arith
 
--- src/lib.rt:65:12
 waits-requires : tie.Need-waits-requires Inv-loop μ-loop Inv-search μ-search
 waits-requires c κs = omega arith
 
--- src/lib.rt:67:13
 loop-holds : tie.Need-loop-holds Inv-loop μ-loop Inv-search μ-search
 loop-holds c = (search needs, sym (any-none _))
 
--- src/lib.rt:71:32
 mul-awaits : tie.Need-mul-awaits Inv-loop μ-loop Inv-search μ-search
 mul-awaits c = omega arith
 
--- src/lib.rt:71:32
 array-read-awaits : tie.Need-array-read-awaits Inv-loop μ-loop Inv-search μ-search
 array-read-awaits c = omega arith
 
--- src/lib.rt:71:20
 awaits-requires : tie.Need-awaits-requires Inv-loop μ-loop Inv-search μ-search
 awaits-requires c κs = omega arith
 
--- src/lib.rt:74:17
 add-u : tie.Need-add-u Inv-loop μ-loop Inv-search μ-search
 add-u c = omega arith
 
--- src/lib.rt:67:13
 loop-less : tie.Need-loop-less Inv-loop μ-loop Inv-search μ-search
 loop-less c = omega arith
 
--- src/lib.rt:67:13
 loop-again : tie.Need-loop-again Inv-loop μ-loop Inv-search μ-search
 unfolding awaited before
 loop-again c =
     let at-loop = c .before .before .before in
     (omega arith, any-step _ _ ∙ or-no _ _ (at-loop .loop .inv .1) (sym (c .before .awaits .ensures) ∙ c .if4 .left))
 
--- src/lib.rt:77:9
 add-t : tie.Need-add-t Inv-loop μ-loop Inv-search μ-search
 add-t c = omega arith
 
--- src/lib.rt:60:9
 search-less : tie.Need-search-less Inv-loop μ-loop Inv-search μ-search
 search-less c = omega arith
 
--- src/lib.rt:60:9
 search-again : tie.Need-search-again Inv-loop μ-loop Inv-search μ-search
 unfolding awaited before
 search-again c =
@@ -104,14 +85,12 @@ search-again c =
     (λ x. not-waiting rows _ t ran word (sym (c .before .waits .ensures) ∙ x .left)) (c .if2 .came) in
     (omega arith, below-more _ _ (at-search .search .inv .1) passed)
 
--- src/lib.rt:56:1
 returns : tie.Need-returns Inv-loop μ-loop Inv-search μ-search
 unfolding firstReady
 returns c =
     let start = c .before .before in
     sym (least-all-no (ready (start .args .t1) (start .args .committed) (start .args .ran)) 64 (λ k h. c .before .search .inv .1 k (omega arith)))
 
--- src/lib.rt:56:1
 returns-2 : tie.Need-returns-2 Inv-loop μ-loop Inv-search μ-search
 unfolding firstReady
 returns-2 c =

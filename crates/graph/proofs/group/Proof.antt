@@ -1,7 +1,7 @@
 -- `graph::group` meets its contract: after u turns the word has those below u that join t.
 -- Assumes nothing.
-use mathlib.Core.Path.{_≡_, sym, ap, _∙_}
-use Prim.Native.Nat.{ℕ, _-_, _≤_}
+use mathlib.Core.Path.{_≡_, ap, _∙_}
+use Prim.Native.Nat.{_-_, _≤_}
 use native.Mathlib.Omega.{arith}
 use borrow.Author.Needs.{needs}
 use Rattle.masks.specs.Folds.{maskOf}
@@ -9,10 +9,6 @@ use Rattle.masks.proofs.Turns.{mask-none, mask-step}
 use Rattle.graph.specs.Walk.{before, joins, group}
 use Rattle.graph.proofs.group.Statement.{statement}
 use Rattle.graph.proofs.group.Tie as tie
-use Rattle.graph.proofs.group.Reads as reads
-use Rattle.graph.proofs.group.Lts as lts
-use Rattle.graph.proofs.joins.Reads as joins-reads
-use Rattle.masks.proofs.put.Reads as put-reads
 
 abbrev Inv-loop : tie.InvT-loop
 Inv-loop t rows row g₀ u₀ g u = (u ≤ 64) × (g ≡ maskOf (joins rows t) u)
@@ -20,48 +16,37 @@ Inv-loop t rows row g₀ u₀ g u = (u ≤ 64) × (g ≡ maskOf (joins rows t) u
 abbrev μ-loop : tie.MeasureT-loop
 μ-loop t rows row g₀ u₀ g u = 64 - u
 
--- src/lib.rt:94:15
 mul-row : tie.Need-mul-row Inv-loop μ-loop
 mul-row c = search needs
 
--- src/lib.rt:94:15
 array-read-row : tie.Need-array-read-row Inv-loop μ-loop
 array-read-row c = search needs
 
--- src/lib.rt:96:5
 loop-holds : tie.Need-loop-holds Inv-loop μ-loop
 loop-holds c = (search needs, mask-none _)
 
--- src/lib.rt:97:41
 mul-joins : tie.Need-mul-joins Inv-loop μ-loop
 mul-joins c = search needs
 
--- src/lib.rt:97:41
 array-read-joins : tie.Need-array-read-joins Inv-loop μ-loop
 array-read-joins c = search needs
 
--- src/lib.rt:97:30
 joins-requires : tie.Need-joins-requires Inv-loop μ-loop
 joins-requires c κs = search needs
 
--- src/lib.rt:97:9
 put-requires : tie.Need-put-requires Inv-loop μ-loop
 put-requires c κs = search needs
 
--- src/lib.rt:96:9
 add-u : tie.Need-add-u Inv-loop μ-loop
 add-u c = search needs
 
--- src/lib.rt:96:5
 loop-less : tie.Need-loop-less Inv-loop μ-loop
 loop-less c = search needs
 
--- src/lib.rt:96:5
 loop-again : tie.Need-loop-again Inv-loop μ-loop
 unfolding joins before
 loop-again c = (search needs, rw (mask-step, c .put .ensures, c .before .joins .ensures, c .before .before .before .loop .inv .1))
 
--- src/lib.rt:90:1
 returns : tie.Need-returns Inv-loop μ-loop
 unfolding group
 returns c = c .before .loop .inv .1 ∙ ap (maskOf _) (omega arith)

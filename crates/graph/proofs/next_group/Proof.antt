@@ -7,25 +7,17 @@ use Rattle.graph.specs.Walk.{groupAt, nextGroup}
 use borrow.Author.Needs.{needs}
 use Rattle.graph.proofs.next_group.Statement.{statement}
 use Rattle.graph.proofs.next_group.Tie as tie
-use Rattle.graph.proofs.next_group.Reads as reads
-use Rattle.graph.proofs.next_group.Lts as lts
-use Rattle.graph.proofs.first_ready.Reads as first-ready-reads
-use Rattle.graph.proofs.group.Reads as group-reads
 
--- src/lib.rt:106:9
 first-ready-requires : tie.Need-first-ready-requires
 first-ready-requires c κs = search needs
 
--- src/lib.rt:107:17
 group-requires : tie.Need-group-requires
 group-requires c κs = search needs
 
--- src/lib.rt:103:1
 returns : tie.Need-returns
 unfolding nextGroup groupAt
 returns c = rw (← c .before .before .first-ready .ensures, lt-ltb _ _ (c .before .if1 .taken)) (c .group .ensures)
 
--- src/lib.rt:103:1
 returns-2 : tie.Need-returns-2
 unfolding nextGroup groupAt
 returns-2 c =

@@ -8,12 +8,9 @@ use native.Mathlib.Omega.{arith}
 use borrow.Author.Needs.{needs}
 use lib.ListN.{length, getD, set}
 use Rattle.graph.specs.Walk.{grown, pass}
-use Rattle.graph.proofs.Places.{upto, upto-none, upto-length, upto-next, upto-more, upto-all}
+use Rattle.graph.proofs.Places.{upto, upto-none, upto-next, upto-more, upto-all}
 use Rattle.graph.proofs.through.Statement.{statement}
 use Rattle.graph.proofs.through.Tie as tie
-use Rattle.graph.proofs.through.Reads as reads
-use Rattle.graph.proofs.through.Lts as lts
-use Rattle.graph.proofs.grown.Reads as grown-reads
 
 abbrev Inv-loop : tie.InvT-loop
 Inv-loop k out₀ own t₀ out t = (t ≤ 64) × (out ≡ upto (grown k own) t out₀)
