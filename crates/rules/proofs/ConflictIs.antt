@@ -1,19 +1,18 @@
 -- Two transactions conflict at a shard exactly if they share a key there and not both pieces are reads; the same is told by their two key words, and from either side.
 -- Assumes nothing.
-use Prim.Native.Nat.{ℕ, _^_, _<_, _≤_}
+use Prim.Native.Nat.{ℕ, _^_, _<_}
 use mathlib.Core.Path.{_≡_, refl, sym, ap, _∙_}
-use mathlib.Core.Bool.{Bool, true, false, not, _&&_, _||_}
+use mathlib.Core.Bool.{Bool, true, not, _&&_}
 use mathlib.Core.Logic.{_⊎_, inl, inr, ⊎-elim}
 use native.Mathlib.Decide.{ℕ-discrete}
 use native.Mathlib.Omega.{arith}
 use lib.Dec.{ltb, eqb}
 use borrow.Author.Tests.{lt-ltb, ltb-true, eq-eqb, eqb-true, eqb-false, ne-eqb}
 use Rattle.masks.specs.Bits.{has, none, both}
-use Rattle.masks.specs.Folds.{anyBelow, maskOf}
+use Rattle.masks.specs.Folds.{anyBelow}
 use Rattle.masks.proofs.Bools.{and-yes, and-yes-l, and-yes-r, or-yes, or-yes-l, or-yes-r, not-yes, true-or-false, true-and-false, not-true-false, bool-ext}
-use Rattle.masks.proofs.Laws.{has-in, has-both, has-not, in-pos, in-lt, in-has, both-lt, empty-word}
+use Rattle.masks.proofs.Laws.{has-in, has-both, has-not, in-pos, in-lt, both-lt, empty-word}
 use Rattle.masks.proofs.FoldLaws.{any-at, any-of, any-no, has-mask-below, mask-bound}
-use Rattle.rules.specs.declared.Piece.{Piece}
 use Rattle.rules.specs.declared.Pieces.{Pieces}
 use Rattle.rules.specs.Cluster.{KEYS, PIECES}
 use Rattle.rules.specs.Pieces.{pieceAt, read, onShard, On}

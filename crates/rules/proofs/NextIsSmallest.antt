@@ -1,13 +1,13 @@
 -- The next ballot is the smallest one of the coordinator above the number, and it is refused by 9 exactly where there is none.
 -- Assumes nothing.
 use Prim.Native.Nat.{ℕ, _+_, _<_, _≤_, _%_}
-use mathlib.Core.Path.{_≡_, refl, sym, ap, _∙_}
-use mathlib.Core.Bool.{Bool, true, false, cond, _&&_}
+use mathlib.Core.Path.{_≡_, refl}
+use mathlib.Core.Bool.{Bool, true, false}
 use native.Mathlib.Omega.{arith}
 use native.Mathlib.Decide.{decLt}
-use lib.Dec.{ltb, leb, eqb}
-use borrow.Author.Tests.{lt-ltb, le-ltb, ltb-true, ltb-false, leb-true, leb-false, le-leb, lt-leb, eqb-true, eq-eqb}
-use Rattle.masks.proofs.Bools.{and-yes-l, and-yes-r, and-yes}
+use lib.Dec.{leb, eqb}
+use borrow.Author.Tests.{lt-ltb, le-ltb, ltb-true, ltb-false, leb-true, leb-false, le-leb, eqb-true, eq-eqb}
+use Rattle.masks.proofs.Bools.{and-yes-l, and-yes-r}
 use Rattle.rules.specs.Cluster.{badCoordinator}
 use Rattle.rules.specs.Ballots.{firstRecovery, lastBallot, step, recovery, recoversWith, nextAbove, noNext, nextRefusal, nextBallot, Next}
 

@@ -1,19 +1,18 @@
 -- One pass over a list puts the place of each entry into a word: afterwards the word holds the places that some entry has.
 -- Assumes nothing.
-use Prim.Native.Nat.{ℕ, _+_, _^_, _<_, _≤_}
+use Prim.Native.Nat.{ℕ, _+_, _^_, _<_}
 use mathlib.Core.Path.{_≡_, refl, sym, ap, _∙_}
 use mathlib.Core.Bool.{Bool, true, false, not, cond, _&&_, _||_, and-false}
 use native.Mathlib.Decide.{ℕ-discrete}
 use native.Mathlib.Omega.{arith}
 use lib.Dec.{ltb, eqb}
 use lib.Pow.{pow-pos}
-use borrow.Author.Tests.{lt-ltb, ltb-true, eq-eqb, ne-eqb}
-use Rattle.rules.specs.declared.Piece.{Piece}
+use borrow.Author.Tests.{lt-ltb, ltb-true, ne-eqb}
 use Rattle.rules.specs.declared.Pieces.{Pieces}
 use Rattle.rules.specs.Cluster.{SHARDS, KEYS, PIECES}
 use Rattle.rules.specs.Pieces.{pieceAt, read, onShard, touches, shardsOf}
 use Rattle.rules.specs.Keys.{atKey, writesAt, hasKey, writesKey, keysOn}
-use Rattle.masks.specs.Bits.{has, insert}
+use Rattle.masks.specs.Bits.{insert}
 use Rattle.masks.specs.Folds.{anyBelow, maskOf}
 use Rattle.masks.proofs.Bools.{and-yes-r}
 use Rattle.masks.proofs.Turns.{any-none, any-step}

@@ -1,23 +1,23 @@
 -- What rule 2 gives: 1 to 8 pieces, each within its limits, strictly rising, so that no two share a shard and a key; and some shard is touched.
 -- Assumes nothing.
-use Prim.Native.Nat.{ℕ, zero, suc, _+_, _*_, _-_, _^_, _<_, _≤_}
-use mathlib.Core.Path.{_≡_, refl, sym, ap, _∙_}
-use mathlib.Core.Bool.{Bool, true, false, not, _&&_, _||_}
-use mathlib.Core.Logic.{_⊎_, inl, inr, ⊎-elim}
-use native.Mathlib.Decide.{decLt, ℕ-discrete}
+use Prim.Native.Nat.{ℕ, zero, suc, _-_, _^_, _<_, _≤_}
+use mathlib.Core.Path.{_≡_, refl, _∙_}
+use mathlib.Core.Bool.{Bool, true, not, _&&_, _||_}
+use mathlib.Core.Logic.{⊎-elim}
+use native.Mathlib.Decide.{decLt}
 use native.Mathlib.Omega.{arith}
 use lib.Dec.{ltb, leb, eqb}
 use lib.IntN.{ℤ, pos, negsuc}
-use borrow.Author.Tests.{lt-ltb, ltb-true, leb-true, le-leb, eq-eqb, ne-eqb, eqb-true, eqb-false}
-use Rattle.masks.specs.Bits.{has, none, In}
-use Rattle.masks.specs.Folds.{allBelow, anyBelow, maskOf}
-use Rattle.masks.proofs.Bools.{and-yes, and-yes-l, and-yes-r, or-yes, or-yes-l, or-yes-r, not-yes, true-and-false}
+use borrow.Author.Tests.{ltb-true, leb-true, eq-eqb, ne-eqb}
+use Rattle.masks.specs.Bits.{has, none}
+use Rattle.masks.specs.Folds.{allBelow}
+use Rattle.masks.proofs.Bools.{and-yes-l, and-yes-r}
 use Rattle.masks.proofs.Laws.{in-pos, has-in}
-use Rattle.masks.proofs.FoldLaws.{all-at, all-of, any-at, any-of, has-mask, has-mask-below, mask-bound, below-or-last}
+use Rattle.masks.proofs.FoldLaws.{all-at, any-at, any-of, has-mask, has-mask-below, mask-bound, below-or-last}
 use Rattle.rules.specs.declared.Piece.{Piece}
 use Rattle.rules.specs.declared.Pieces.{Pieces}
 use Rattle.rules.specs.Cluster.{SHARDS, KEYS, KINDS, PIECES}
-use Rattle.rules.specs.Pieces.{pieceAt, place, read, isZero, pieceKept, entryKept, piecesKept, tooMany, anyPieces, onShard, On, touches, shardsOf, piecesOn}
+use Rattle.rules.specs.Pieces.{pieceAt, place, read, isZero, pieceKept, entryKept, piecesKept, onShard, On, touches, shardsOf}
 use Rattle.rules.proofs.ConflictIs.{on-is, is-on}
 
 -- one piece

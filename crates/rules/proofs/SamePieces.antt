@@ -1,22 +1,20 @@
 -- Transactions with the same pieces agree in all that is asked of pieces. Assumes nothing.
-use Prim.Native.Nat.{ℕ, zero, suc, _-_, _<_, _≤_}
+use Prim.Native.Nat.{ℕ, _-_, _<_}
 use mathlib.Core.Path.{_≡_, refl, sym, ap, ap₂, _∙_}
 use mathlib.Core.Bool.{Bool, true, false, not, _&&_, _||_, and-false}
-use mathlib.Core.Logic.{_⊎_, inl, inr, ⊎-elim}
 use native.Mathlib.Decide.{decLt}
 use native.Mathlib.Omega.{arith}
 use lib.Dec.{ltb, leb, eqb}
 use lib.IntN.{ℤ, pos, negsuc}
-use borrow.Author.Tests.{lt-ltb, le-ltb, leb-true, le-leb, lt-leb, eq-eqb, eqb-true}
-use Rattle.masks.specs.Folds.{allBelow, anyBelow, countBelow, maskOf}
-use Rattle.masks.proofs.Bools.{and-yes, and-yes-l, and-yes-r, or-yes, or-yes-l, or-yes-r, true-and-false}
+use borrow.Author.Tests.{le-ltb, le-leb, lt-leb, eq-eqb, eqb-true}
+use Rattle.masks.specs.Folds.{allBelow}
+use Rattle.masks.proofs.Bools.{and-yes, and-yes-l, and-yes-r, or-yes-l, or-yes-r}
 use Rattle.masks.proofs.FoldLaws.{all-at, all-of, all-cong, any-cong, mask-cong}
 use Rattle.masks.proofs.Counts.{count-cong}
 use Rattle.rules.specs.declared.Piece.{Piece}
 use Rattle.rules.specs.declared.Pieces.{Pieces}
-use Rattle.rules.specs.declared.Keys.{Keys}
 use Rattle.rules.specs.Cluster.{SHARDS, KEYS, PIECES}
-use Rattle.rules.specs.Pieces.{pieceAt, place, read, sameInt, samePiece, sameEntry, samePieces, pieceKept, entryKept, piecesKept, tooMany, anyPieces, onShard, touches, shardsOf, piecesOn}
+use Rattle.rules.specs.Pieces.{pieceAt, read, sameInt, samePiece, sameEntry, samePieces, entryKept, piecesKept, anyPieces, onShard, touches, shardsOf, piecesOn}
 use Rattle.rules.specs.Conflict.{conflict}
 use Rattle.rules.specs.Keys.{atKey, writesAt, hasKey, writesKey, keysOn, clashes}
 use Rattle.rules.proofs.ConflictIs.{conflict-keys}

@@ -1,5 +1,5 @@
 -- Each server is one replica of one shard. Assumes nothing.
-use Prim.Native.Nat.{ℕ, _+_, _*_, _/_, _%_, _<_}
+use Prim.Native.Nat.{ℕ, _%_, _<_}
 use mathlib.Core.Path.{_≡_}
 use native.Mathlib.Omega.{arith}
 use Rattle.rules.specs.Cluster.{SHARDS, REPLICAS, SERVERS, serverOf, shardOf}

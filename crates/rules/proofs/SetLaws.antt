@@ -1,16 +1,16 @@
 -- Dependency sets by their words: equality, union, all members, and what rule 3 asks of each word.
 -- Assumes nothing.
-use Prim.Native.Nat.{ℕ, zero, suc, _^_, _<_, _≤_}
-use mathlib.Core.Path.{_≡_, refl, sym, ap, _∙_}
-use mathlib.Core.Bool.{Bool, true, false, not, _&&_, _||_}
+use Prim.Native.Nat.{ℕ, zero, suc, _<_}
+use mathlib.Core.Path.{_≡_, refl, ap, _∙_}
+use mathlib.Core.Bool.{Bool, true, false, not, _&&_}
 use native.Mathlib.Omega.{arith}
 use lib.Dec.{eqb}
 use borrow.Author.Tests.{eq-eqb, eqb-true, ne-eqb}
 use Rattle.masks.specs.Bits.{has, none, union, In}
-use Rattle.masks.specs.Folds.{anyBelow, unionOf}
-use Rattle.masks.proofs.Bools.{and-yes-l, and-yes-r, or-no, or-no-l, or-no-r, and-no-l, and-no-r, not-no, bool-ext}
-use Rattle.masks.proofs.Laws.{has-union, has-none, union-lt}
-use Rattle.masks.proofs.FoldLaws.{any-no, no-any, has-unions, in-unions, in-unions-of, unions-bound}
+use Rattle.masks.specs.Folds.{anyBelow}
+use Rattle.masks.proofs.Bools.{and-yes-l, and-yes-r, or-no, or-no-l, or-no-r, not-no}
+use Rattle.masks.proofs.Laws.{has-union, has-none}
+use Rattle.masks.proofs.FoldLaws.{any-no, no-any, has-unions, in-unions, in-unions-of}
 use Rattle.rules.specs.declared.Set.{Set}
 use Rattle.rules.specs.Cluster.{SHARDS}
 use Rattle.rules.specs.Sets.{noSet, word, setOf, members, unionSet, sameSet, badWord, badWordAt, badSet}

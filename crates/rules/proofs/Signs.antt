@@ -1,7 +1,6 @@
 -- A signed number's tests, by the bits that the machine compares. Assumes nothing.
-use Prim.Native.Nat.{ℕ, zero, suc, _<_, _-_, _^_}
+use Prim.Native.Nat.{zero, suc, _-_, _^_}
 use mathlib.Core.Path.{_≡_, refl, sym, _∙_}
-use mathlib.Core.Bool.{Bool, true, false}
 use native.Mathlib.Omega.{arith}
 use native.Mathlib.Decide.{ℕ-discrete}
 use lib.Dec.{eqb}

@@ -1,7 +1,7 @@
 // The limits of the cluster, each in one place, and rule 1 of the numbers under them.
 ghost use mathlib.Core.Path.{_≡_};
 ghost use Prim.Native.Nat.{_<_};
-ghost use Rattle.rules.specs.Cluster.{badNumber, badServer, badCoordinator, serverOf, shardOf};
+ghost use Rattle.rules.specs.Cluster.{SHARDS, REPLICAS, badNumber, badServer, badCoordinator, serverOf, shardOf};
 
 pub const SHARDS: u32 = 4;
 
@@ -47,7 +47,7 @@ pub fn bad_coordinator(c: u32) -> bool
 
 // The server that is replica `r` of shard `k`.
 pub fn server_of(k: u32, r: u32) -> u32
-    requires { ⌜ (k < 4) × (r < 3) ⌝ }
+    requires { ⌜ (k < SHARDS) × (r < REPLICAS) ⌝ }
     ensures { λ s. ⌜ s ≡ serverOf k r ⌝ }
 {
     REPLICAS * k + r

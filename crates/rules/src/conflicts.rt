@@ -6,6 +6,7 @@ use crate::Keys;
 use crate::Pieces;
 use crate::cluster::KEYS;
 use crate::cluster::PIECES;
+use crate::transaction::READ;
 use crate::transaction::put_below;
 
 // The keys of a transaction at shard `k`.
@@ -20,7 +21,7 @@ pub fn keys_on(ps: Pieces, k: u32) -> Keys
         let p = ps.list[i];
         let here = (i < n) & (p.shard == k);
         all = put_below(all, KEYS, p.key, here);
-        written = put_below(written, KEYS, p.key, here & (p.kind != 0));
+        written = put_below(written, KEYS, p.key, here & (p.kind != READ));
         i += 1;
     }
     Keys {

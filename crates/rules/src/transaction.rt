@@ -4,6 +4,7 @@ ghost use mathlib.Core.Bool.{cond, _&&_};
 ghost use Prim.Native.Nat.{_+_, _<_, _≤_};
 ghost use lib.Dec.{ltb};
 ghost use Rattle.masks.specs.Bits.{insert};
+ghost use Rattle.rules.specs.Cluster.{NUMBERS, PIECES};
 ghost use Rattle.rules.specs.Pieces.{place, pieceKept, entryKept, piecesKept, tooMany, anyPieces, onShard, touches, shardsOf, piecesOn, samePiece, samePieces};
 use crate::Piece;
 use crate::Pieces;
@@ -11,6 +12,13 @@ use crate::cluster::KEYS;
 use crate::cluster::KINDS;
 use crate::cluster::PIECES;
 use crate::cluster::SHARDS;
+
+// The kinds of a piece.
+pub const READ: u32 = 0;
+
+pub const PUT: u32 = 1;
+
+pub const ADD: u32 = 2;
 
 // Where a piece stands in the order of pieces.
 pub fn place(p: Piece) -> u64
@@ -23,12 +31,12 @@ pub fn place(p: Piece) -> u64
 pub fn piece_kept(p: Piece) -> bool
     ensures { λ r. ⌜ r ≡ pieceKept p ⌝ }
 {
-    (p.shard < SHARDS) & (p.key < KEYS) & (p.kind < KINDS) & ((p.kind != 0) | (p.operand == 0))
+    (p.shard < SHARDS) & (p.key < KEYS) & (p.kind < KINDS) & ((p.kind != READ) | (p.operand == 0))
 }
 
 // Piece `i` keeps the rule, and stands after the one before it.
 pub fn entry_kept(ps: Pieces, i: usize) -> bool
-    requires { ⌜ i < 8 ⌝ }
+    requires { ⌜ i < PIECES ⌝ }
     ensures { λ r. ⌜ r ≡ entryKept ps i ⌝ }
 {
     let p = ps.list[i];
@@ -73,7 +81,7 @@ pub fn any_pieces(ps: Pieces) -> bool
 
 // Piece `i` is there, and on shard `k`.
 pub fn on_shard(ps: Pieces, k: u32, i: usize) -> bool
-    requires { ⌜ i < 8 ⌝ }
+    requires { ⌜ i < PIECES ⌝ }
     ensures { λ r. ⌜ r ≡ onShard ps k i ⌝ }
 {
     let p = ps.list[i];
@@ -95,7 +103,7 @@ pub fn touches(ps: Pieces, k: u32) -> bool
 
 // One more where `b` says so.
 fn counted(many: u32, b: bool) -> u32
-    requires { ⌜ many < 8 ⌝ }
+    requires { ⌜ many < PIECES ⌝ }
     ensures { λ r. ⌜ r ≡ cond b (many + 1) many ⌝ }
 {
     if b { many + 1 } else { many }
@@ -116,7 +124,7 @@ pub fn pieces_on(ps: Pieces, k: u32) -> u32
 
 // w and, where `b` says so and `t` is below `n`, t.
 pub fn put_below(w: u64, n: u32, t: u32, b: bool) -> u64
-    requires { ⌜ n ≤ 64 ⌝ }
+    requires { ⌜ n ≤ NUMBERS ⌝ }
     ensures { λ r. ⌜ r ≡ cond (b && ltb t n) (insert w t) w ⌝ }
 {
     let there = b & (t < n);

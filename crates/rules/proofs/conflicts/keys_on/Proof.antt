@@ -1,6 +1,6 @@
 -- `rules::conflicts::keys_on` meets its contract: the words hold the keys of the pieces passed. Assumes nothing.
-use Prim.Native.Nat.{ℕ, _+_, _-_, _≤_, _<_}
-use mathlib.Core.Path.{_≡_, ap, _∙_}
+use Prim.Native.Nat.{_-_, _≤_}
+use mathlib.Core.Path.{_≡_}
 use native.Mathlib.Omega.{arith}
 use Rattle.rules.specs.Pieces.{onShard}
 use Rattle.rules.proofs.OnePass.{keysPassed, writtenPassed, keys-none, written-none, keys-step, written-step, keys-all}

@@ -1,5 +1,5 @@
 -- `rules::transaction::pieces_kept` meets its contract: the pieces passed keep the rule. Assumes nothing.
-use Prim.Native.Nat.{ℕ, _+_, _-_, _≤_, _<_}
+use Prim.Native.Nat.{_-_, _≤_}
 use mathlib.Core.Path.{_≡_, ap, _∙_}
 use native.Mathlib.Omega.{arith}
 use mathlib.Core.Bool.{_&&_}

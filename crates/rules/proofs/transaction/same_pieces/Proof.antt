@@ -1,6 +1,6 @@
 -- `rules::transaction::same_pieces` meets its contract: the pieces passed are the same. Assumes nothing.
-use Prim.Native.Nat.{ℕ, _+_, _-_, _≤_, _<_}
-use mathlib.Core.Path.{_≡_, ap, _∙_}
+use Prim.Native.Nat.{_-_, _≤_}
+use mathlib.Core.Path.{_≡_}
 use native.Mathlib.Omega.{arith}
 use Rattle.masks.specs.Folds.{allBelow}
 use Rattle.masks.proofs.Turns.{all-none, all-step}

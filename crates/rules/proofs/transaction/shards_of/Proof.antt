@@ -1,5 +1,5 @@
 -- `rules::transaction::shards_of` meets its contract: the word holds the shards of the pieces passed. Assumes nothing.
-use Prim.Native.Nat.{ℕ, _+_, _-_, _≤_, _<_}
+use Prim.Native.Nat.{_-_, _≤_}
 use mathlib.Core.Path.{_≡_, ap, _∙_}
 use native.Mathlib.Omega.{arith}
 use Rattle.rules.proofs.OnePass.{shardsPassed, shards-none, shards-step, shards-all}

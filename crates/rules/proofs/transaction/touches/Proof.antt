@@ -1,5 +1,5 @@
 -- `rules::transaction::touches` meets its contract: the pieces passed touch the shard. Assumes nothing.
-use Prim.Native.Nat.{ℕ, _+_, _-_, _≤_, _<_}
+use Prim.Native.Nat.{_-_, _≤_}
 use mathlib.Core.Path.{_≡_, ap, _∙_}
 use native.Mathlib.Omega.{arith}
 use Rattle.masks.specs.Folds.{anyBelow}
