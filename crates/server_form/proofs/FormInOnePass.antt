@@ -3,14 +3,14 @@
 use Prim.Native.Nat.{ℕ, zero, suc, _+_, _<_}
 use mathlib.Core.Path.{_≡_, refl, sym, ap, ap₂, _∙_}
 use mathlib.Core.Logic.{⊎-elim}
-use mathlib.Core.Bool.{Bool, true, false, not, cond, _&&_, _||_, and-assoc, and-false}
+use mathlib.Core.Bool.{Bool, true, false, not, cond, _&&_, _||_, and-assoc, and-true, and-false}
 use native.Mathlib.Omega.{arith}
 use lib.Dec.{leb, eqb}
 use borrow.Author.Tests.{leb-true, eqb-true, eq-eqb}
 use Rattle.masks.specs.Bits.{has, insert, within}
 use Rattle.masks.specs.Folds.{allBelow, anyBelow, iter}
 use Rattle.masks.proofs.Bools.{and-yes, and-yes-l, and-yes-r, true-or-false, bool-ext}
-use Rattle.masks.proofs.Turns.{iter-none, iter-step}
+use Rattle.masks.proofs.Turns.{all-none, all-step, iter-none, iter-step}
 use Rattle.masks.proofs.Laws.{has-none, has-put}
 use Rattle.masks.proofs.FoldLaws.{all-at, all-of, all-cong, all-both, all-mono, any-at, any-of}
 use Rattle.rules.specs.Flags.{there, implies}
@@ -20,7 +20,7 @@ use Rattle.server.specs.declared.Log.{Log}
 use Rattle.server.specs.declared.Server.{Server}
 use Rattle.server.specs.Held.{recordAt, entryAt, committedAt, shard}
 use Rattle.server.specs.Form.{noted, logged, entryFormed, logFormed, recordFormed, recordFormedAt, resultsFormed, resultsFormedAt, formed}
-use Rattle.server_form.specs.OnePass.{entryNew, readLog, loggedFormed, numberFormed, numberFormedAt}
+use Rattle.server_form.specs.OnePass.{entryNew, readLog, loggedFormed, numberFormed, numberFormedAt, formedBelow}
 
 -- ---- the log's word
 
@@ -86,7 +86,7 @@ and-under true b c h = h refl
 and-under false b c h = refl
 
 regroup : (a b f i c : Bool) → (a && b && (f && i) && c) ≡ (f && a && (b && i && c))
-regroup true true f i c = and-assoc f i c ∙ ap (λ (x : Bool). x && (i && c)) (sym (mathlib.Core.Bool.and-true f))
+regroup true true f i c = and-assoc f i c ∙ ap (λ (x : Bool). x && (i && c)) (sym (and-true f))
 regroup true false true i c = refl
 regroup true false false i c = refl
 regroup false b true i c = refl
@@ -119,7 +119,7 @@ module _ (s : Server) where
       all-cong (entryFormed s) (λ i. entryNew (s .log) i && Q (entryAt (s .log) i)) n (λ i h. entry-splits i)
       ∙ sym (all-both (entryNew (s .log)) (λ i. Q (entryAt (s .log) i)) n)
       ∙ and-under (allBelow (entryNew (s .log)) n) (allBelow (λ i. Q (entryAt (s .log) i)) n) (allBelow (asksOf s) 64)
-        (λ e. entries-numbers (s .log) Q n (λ i h. new-number i (all-at (entryNew (s .log)) n i e h)))
+      (λ e. entries-numbers (s .log) Q n (λ i h. new-number i (all-at (entryNew (s .log)) n i e h)))
 
   numbers-split : allBelow (numberFormedAt s (logWord s)) 64 ≡ (allBelow (recordFormedAt s) 64 && allBelow (asksOf s) 64 && allBelow (resultsFormedAt s) 64)
   unfolding numberFormedAt numberFormed recordFormedAt resultsFormedAt
@@ -127,16 +127,27 @@ module _ (s : Server) where
       sym (all-both (λ t. recordFormedAt s t && asksOf s t) (resultsFormedAt s) 64)
       ∙ ap (λ (b : Bool). b && allBelow (resultsFormedAt s) 64) (sym (all-both (recordFormedAt s) (asksOf s) 64))
 
-  short : leb (s .log .count) 64 ≡ true → formed s ≡ (readLog (s .log) .fine && not (badServer (s .id)) && allBelow (numberFormedAt s (readLog (s .log) .word)) 64)
-  unfolding formed logFormed readLog
+  short : leb (s .log .count) 64 ≡ true → formed s ≡ formedBelow s 64
+  unfolding formed logFormed readLog formedBelow
   short e =
       rw (e, log-splits, numbers-split)
       (regroup (not (badServer (s .id))) (allBelow (recordFormedAt s) 64) (allBelow (entryNew (s .log)) (s .log .count)) (allBelow (asksOf s) 64) (allBelow (resultsFormedAt s) 64))
 
-  long : leb (s .log .count) 64 ≡ false → formed s ≡ (readLog (s .log) .fine && not (badServer (s .id)) && allBelow (numberFormedAt s (readLog (s .log) .word)) 64)
-  unfolding formed logFormed readLog
+  long : leb (s .log .count) 64 ≡ false → formed s ≡ formedBelow s 64
+  unfolding formed logFormed readLog formedBelow
   long e = rw (e, and-false)
 
-  -- the form in one pass
-  pub form-once : formed s ≡ (readLog (s .log) .fine && not (badServer (s .id)) && allBelow (numberFormedAt s (readLog (s .log) .word)) 64)
+  -- the form in one pass, and how the pass goes on
+  pub form-once : formed s ≡ formedBelow s 64
   form-once = ⊎-elim short long (true-or-false (leb (s .log .count) 64))
+
+  pub pass-none : (readLog (s .log) .fine && not (badServer (s .id))) ≡ formedBelow s 0
+  unfolding formedBelow
+  pass-none =
+      sym (and-true _) ∙ ap (λ (b : Bool). readLog (s .log) .fine && not (badServer (s .id)) && b) (all-none (numberFormedAt s (readLog (s .log) .word)))
+
+  pub pass-step : (t : ℕ) → formedBelow s (t + 1) ≡ (formedBelow s t && numberFormed (shard s) (readLog (s .log) .word) t (recordAt s t))
+  unfolding formedBelow numberFormedAt
+  pass-step t =
+      ap (λ (b : Bool). readLog (s .log) .fine && not (badServer (s .id)) && b) (all-step (numberFormedAt s (readLog (s .log) .word)) t)
+      ∙ sym (and-assoc (readLog (s .log) .fine && not (badServer (s .id))) (allBelow (numberFormedAt s (readLog (s .log) .word)) t) (numberFormedAt s (readLog (s .log) .word) t))

@@ -86,14 +86,14 @@ module _ (k w t : ℕ) (v : Record) where
       (there (v .ran))
       (eqb (v .values .count) (piecesOn (v .pieces) k))
       ∙ ap (λ (b : Bool). b && cond (has w t) (loggedFormed w v && there (v .ran) && eqb (v .values .count) (piecesOn (v .pieces) k)) (not (there (v .ran))))
-        (held
-        (not (badBallot (v .promise)))
-        (there (v .accepted .some))
-        (not (badBallot (v .accepted .ballot)))
-        (there (v .arrival .some) || there (v .accepted .some) || there (v .committed .some))
-        (implies (there (v .arrival .some)) (not (badWord t (shardsOf (v .pieces)) k (v .arrival .word))))
-        (not (badSet t (shardsOf (v .pieces)) (v .accepted .set)))
-        (implies (there (v .committed .some)) (not (badSet t (shardsOf (v .pieces)) (v .committed .set))))))
+      (held
+      (not (badBallot (v .promise)))
+      (there (v .accepted .some))
+      (not (badBallot (v .accepted .ballot)))
+      (there (v .arrival .some) || there (v .accepted .some) || there (v .committed .some))
+      (implies (there (v .arrival .some)) (not (badWord t (shardsOf (v .pieces)) k (v .arrival .word))))
+      (not (badSet t (shardsOf (v .pieces)) (v .accepted .set)))
+      (implies (there (v .committed .some)) (not (badSet t (shardsOf (v .pieces)) (v .committed .set))))))
 
   broken : anyPieces (v .pieces) ≡ true → piecesKept (v .pieces) ≡ false → numberFormed k w t v ≡ heldFormed k w t v
   unfolding numberFormed recordFormed piecesFormed heldFormed

@@ -6,7 +6,7 @@ use Rattle.masks.specs.Bits.{has, within}
 use Rattle.masks.specs.Folds.{allBelow}
 use Rattle.rules.specs.Choice.{_if_else_}
 use Rattle.rules.specs.Flags.{there, implies}
-use Rattle.rules.specs.Cluster.{NUMBERS}
+use Rattle.rules.specs.Cluster.{NUMBERS, badServer}
 use Rattle.rules.specs.Ballots.{badBallot}
 use Rattle.rules.specs.declared.Pieces.{Pieces}
 use Rattle.rules.specs.Pieces.{piecesKept, piecesOn, shardsOf}
@@ -45,6 +45,12 @@ numberFormed k w t v = recordFormed k t v && implies (has w t) (loggedFormed w v
 
 unfoldable pub numberFormedAt : Server → (w : ℕ) → ℕ → Bool
 numberFormedAt s w t = numberFormed (shard s) w t (recordAt s t)
+
+-- the log, the server's number, and the numbers below t
+unfoldable pub formedBelow : Server → (t : ℕ) → Bool
+formedBelow s t = readLog (s .log) .fine && not (badServer (s .id)) && allBelow (numberFormedAt s (readLog (s .log) .word)) t
+
+-- ---- the parts of a number's test
 
 -- without pieces nothing else is there but a promise
 unfoldable pub bareFormed : (logged : Bool) → Record → Bool

@@ -14,7 +14,11 @@ fn note(w: u64, entry: u32) -> u64
     ensures { λ r. ⌜ r ≡ cond (leb entry 63) (insert w entry) w ⌝ }
 {
     let number = entry <= 63;
-    if number { masks::insert(w, entry as usize) } else { w }
+    if number {
+        masks::insert(w, entry as usize)
+    } else {
+        w
+    }
 }
 
 pub fn read_log(l: Log) -> LogRead
@@ -23,7 +27,10 @@ pub fn read_log(l: Log) -> LogRead
     let n = l.count as usize;
     let short = l.count <= NUMBERS;
     if !short {
-        return LogRead { word: 0, fine: false };
+        return LogRead {
+            word: 0,
+            fine: false,
+        };
     }
     let mut fine = true;
     let mut word: u64 = 0;
@@ -35,5 +42,8 @@ pub fn read_log(l: Log) -> LogRead
         word = note(word, entry);
         i += 1;
     }
-    LogRead { word: word, fine: fine }
+    LogRead {
+        word: word,
+        fine: fine,
+    }
 }

@@ -4,7 +4,6 @@ use borrow.Author.Tests.{leb-true}
 use Rattle.server_form.proofs.log.note.Tie as tie
 use Rattle.server_form.proofs.log.note.Statement.{statement}
 
-
 insert-requires : tie.Need-insert-requires
 insert-requires c κs = omega (arith, leb-true (c .before .args .entry) 63 (c .if1 .taken))
 

@@ -14,7 +14,6 @@ use Rattle.server_form.proofs.log.read_log.Statement.{statement}
 use Rattle.server_form.proofs.log.read_log.Tie as tie
 use borrow.Author.Needs.{needs}
 
-
 abbrev Inv-loop : tie.InvT-loop
 Inv-loop l n short fine₀ word₀ i₀ fine word i = (i ≤ n) × (n ≤ 64) × (n ≡ l .count) × (fine ≡ allBelow (entryNew l) i) × (word ≡ logged l i)
 
