@@ -1,0 +1,2 @@
+pub mod RunGroups
+pub mod RunTurns
