@@ -18,7 +18,8 @@ is-empty-requires-2 c κs = search needs
 
 returns : tie.Need-returns
 unfolding clashes
-returns c = cc
+returns c =
+    rw (c .is-empty2 .ensures, c .before .both2 .ensures, c .before .before .is-empty .ensures, c .before .before .before .both .ensures)
 
 pub clashes-spec : {M : Type 1} → statement M
 clashes-spec =

@@ -36,7 +36,8 @@ place-requires-2 c κs = search needs
 
 returns-2 : tie.Need-returns-2
 unfolding entryKept
-returns-2 c = rw (ne-eqb _ _ (c .before .before .before .if1 .left)) (cc)
+returns-2 c =
+    rw (c .before .before .before .before .piece-kept .ensures, c .before .place .ensures, c .place2 .ensures, ne-eqb _ _ (c .before .before .before .if1 .left))
 
 pub entry-kept-spec : {M : Type 1} → statement M
 entry-kept-spec =
