@@ -1,4 +1,10 @@
 // What each message does to the record of its T at the server `id`, and the reply.
+use faults::codes::ACCEPT;
+use faults::codes::COMMIT;
+use faults::codes::DONE;
+use faults::codes::INQUIRE;
+use faults::codes::PRE_ACCEPT;
+use faults::codes::PREPARE;
 use rules::MaybeSet;
 use rules::MaybeVote;
 use rules::MaybeWord;
@@ -173,11 +179,11 @@ fn fetched(id: u32, v: Record, m: Message) -> Changed
 pub fn change(id: u32, w: u64, v: Record, m: Message) -> Changed
     ensures { λ r. ⌜ r ≡ change id w v m ⌝ }
 {
-    let pre_accept = m.code == 0;
-    let accept = m.code == 1;
-    let prepare = m.code == 3;
-    let commit = (m.code == 2) | (m.code == 20);
-    let inquire = m.code == 4;
+    let pre_accept = m.code == PRE_ACCEPT;
+    let accept = m.code == ACCEPT;
+    let prepare = m.code == PREPARE;
+    let commit = (m.code == COMMIT) | (m.code == DONE);
+    let inquire = m.code == INQUIRE;
     if pre_accept {
         let c = pre_accepted(id, w, v, m);
         return asked(id, v, m, c);

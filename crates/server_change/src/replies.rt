@@ -1,4 +1,12 @@
 // A server's replies, each made from its fields. A field that a reply does not have is zero.
+use faults::codes::ACCEPT_OK;
+use faults::codes::BEHIND;
+use faults::codes::COMMIT_OK;
+use faults::codes::DONE;
+use faults::codes::NOT_YET;
+use faults::codes::PRE_ACCEPT_OK;
+use faults::codes::PREPARE_OK;
+use faults::codes::RESULTS;
 use rules::MaybeVote;
 use rules::MaybeWord;
 use rules::Piece;
@@ -66,7 +74,7 @@ pub fn blank() -> Message
 pub fn pre_accept_ok(t: u32, server: u32, ballot: u32, word: u64) -> Message
     ensures { λ r. ⌜ r ≡ preAcceptOK t server ballot word ⌝ }
 {
-    let mut r = plain(16, t, server, ballot, 0);
+    let mut r = plain(PRE_ACCEPT_OK, t, server, ballot, 0);
     r.word = word;
     r
 }
@@ -74,13 +82,13 @@ pub fn pre_accept_ok(t: u32, server: u32, ballot: u32, word: u64) -> Message
 pub fn accept_ok(t: u32, server: u32, ballot: u32) -> Message
     ensures { λ r. ⌜ r ≡ acceptOK t server ballot ⌝ }
 {
-    plain(17, t, server, ballot, 0)
+    plain(ACCEPT_OK, t, server, ballot, 0)
 }
 
 pub fn commit_ok(t: u32, server: u32) -> Message
     ensures { λ r. ⌜ r ≡ commitOK t server ⌝ }
 {
-    plain(18, t, server, 0, 0)
+    plain(COMMIT_OK, t, server, 0, 0)
 }
 
 pub fn prepare_ok(
@@ -92,7 +100,7 @@ pub fn prepare_ok(
 ) -> Message
     ensures { λ r. ⌜ r ≡ prepareOK t server ballot arrival accepted ⌝ }
 {
-    let mut r = plain(19, t, server, ballot, 0);
+    let mut r = plain(PREPARE_OK, t, server, ballot, 0);
     r.arrival = arrival;
     r.accepted = accepted;
     r
@@ -101,7 +109,7 @@ pub fn prepare_ok(
 pub fn done(t: u32, pieces: Pieces, set: Set) -> Message
     ensures { λ r. ⌜ r ≡ done t pieces set ⌝ }
 {
-    let mut r = plain(20, t, 0, 0, 0);
+    let mut r = plain(DONE, t, 0, 0, 0);
     r.pieces = pieces;
     r.set = set;
     r
@@ -110,19 +118,19 @@ pub fn done(t: u32, pieces: Pieces, set: Set) -> Message
 pub fn behind(t: u32, server: u32, asked: u32, promise: u32) -> Message
     ensures { λ r. ⌜ r ≡ behind t server asked promise ⌝ }
 {
-    plain(21, t, server, asked, promise)
+    plain(BEHIND, t, server, asked, promise)
 }
 
 pub fn not_yet(t: u32, server: u32) -> Message
     ensures { λ r. ⌜ r ≡ notYet t server ⌝ }
 {
-    plain(22, t, server, 0, 0)
+    plain(NOT_YET, t, server, 0, 0)
 }
 
 pub fn results(t: u32, server: u32, values: Values) -> Message
     ensures { λ r. ⌜ r ≡ results t server values ⌝ }
 {
-    let mut r = plain(23, t, server, 0, 0);
+    let mut r = plain(RESULTS, t, server, 0, 0);
     r.values = values;
     r
 }

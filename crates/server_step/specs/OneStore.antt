@@ -1,0 +1,70 @@
+-- A server's step as it is computed: the refusal from the form's verdict, the record of T and the message; then one record stored, changed or as it was.
+use Prim.Native.Nat.{ℕ}
+use mathlib.Core.Bool.{Bool, not, _&&_}
+use lib.Dec.{eqb}
+use Rattle.masks.specs.Folds.{maskOf}
+use Rattle.rules.specs.declared.Pieces.{Pieces}
+use Rattle.rules.specs.Choice.{_if_else_}
+use Rattle.rules.specs.Cluster.{NUMBERS, badNumber}
+use Rattle.rules.specs.Pieces.{shardsOf}
+use Rattle.wire.specs.declared.Message.{Message}
+use Rattle.wire.specs.Faults.{badNumbers, badPieces, badSets}
+use Rattle.wire.specs.Messages.{blank}
+use Rattle.server.specs.declared.Record.{Record}
+use Rattle.server.specs.declared.Server.{Server}
+use Rattle.server.specs.declared.Changed.{Changed}
+use Rattle.server.specs.declared.Served.{Served}
+use Rattle.server.specs.Held.{recordAt, putRecord, shard}
+use Rattle.server.specs.Form.{formed}
+use Rattle.server.specs.Refusals.{notTaken, untouched, otherPieces, otherSet}
+use Rattle.server.specs.Changes.{becomes, change}
+use Rattle.server.specs.Serve.{cameEarlier, fixes}
+
+-- the first of the eight tests, in their order, that fires
+abbrev pub firstRefusal : (b13 b12 b1 b2 b3 b4 b5 b6 : Bool) → ℕ
+firstRefusal b13 b12 b1 b2 b3 b4 b5 b6 =
+    13 if b13
+    else 12 if b12
+    else 1 if b1
+    else 2 if b2
+    else 3 if b3
+    else 4 if b4
+    else 5 if b5
+    else 6 if b6
+    else 0
+
+-- the refusal at a server of shard k that keeps its form, or does not, and that holds v of the message's T
+unfoldable pub refusalBy : Bool → (k : ℕ) → Record → Message → ℕ
+refusalBy form k v m =
+    firstRefusal
+    (not form)
+    (notTaken m)
+    (badNumbers m)
+    (badPieces m)
+    (badSets (shardsOf (m .pieces)) m)
+    (untouched k (shardsOf (m .pieces)) m)
+    (otherPieces v m)
+    (otherSet v m)
+
+-- the message's own change, or on a refusal none, and the blank reply
+unfoldable pub changeBy : (n id w : ℕ) → Record → Message → Changed
+changeBy n id w v m = change id w v m if eqb n 0 else becomes v blank
+
+-- how many numbers the arrival set is looked for among: all, or none where it isn't wanted
+unfoldable pub looked : Bool → ℕ
+looked b = NUMBERS if b else 0
+
+-- the place of the record that is read and stored: of T, or any where T is no number
+unfoldable pub placeOf : ℕ → ℕ
+placeOf t = 0 if badNumber t else t
+
+abbrev pub answered : Server → (i n : ℕ) → Changed → Served
+answered s i n c = record { refusal = n; reply = c .reply; server = putRecord s i (c .after) }
+
+-- the step with the record v of place i and the refusal n
+unfoldable pub answer : Server → (i n : ℕ) → Record → Message → Served
+answer s i n v m = answered s i n (changeBy n (s .id) (maskOf (cameEarlier s (m .pieces)) (looked (eqb n 0 && fixes v m))) v m)
+
+unfoldable pub stepBy : Server → Message → Served
+stepBy s m =
+    answer s (placeOf (m .t)) (refusalBy (formed s) (shard s) (recordAt s (placeOf (m .t))) m) (recordAt s (placeOf (m .t))) m
