@@ -6,6 +6,7 @@ use server::Server;
 
 mod first; // first.rt: what is there at first
 mod gather; // gather.rt: what the records say, in one pass
+mod running; // running.rt: runs one after the other
 
 // What one pass over the records gathers for a run: the direct dependencies of each number, the committed numbers, and those that have run.
 pub struct Survey {
