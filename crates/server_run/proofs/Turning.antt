@@ -3,17 +3,23 @@
 use Prim.Native.Nat.{ℕ, zero, suc, _+_, _-_, _*_, _^_, _≤_, _<_}
 use mathlib.Core.Path.{_≡_, refl, sym, ap, ap₂, _∙_}
 use native.Mathlib.Omega.{arith}
+use mathlib.Core.Bool.{true, not, _&&_}
 use mathlib.Core.List.{List}
+use borrow.Author.Tests.{leb-true}
+use lib.Dec.{leb}
 use lib.ListN.{length, set}
 use Rattle.masks.specs.Bits.{has, union}
-use Rattle.masks.specs.Folds.{over}
+use Rattle.masks.specs.Folds.{allBelow, over}
+use Rattle.masks.proofs.Bools.{and-yes-l, and-yes-r}
 use Rattle.masks.proofs.Counts.{count-le, size-le}
+use Rattle.rules.specs.Cluster.{badServer}
 use Rattle.graph.specs.Walk.{rowsOf, nextGroup}
 use Rattle.counters.specs.declared.Executed.{Executed}
 use Rattle.counters.specs.Effects.{execute}
 use Rattle.server.specs.declared.Log.{Log}
 use Rattle.server.specs.declared.Server.{Server}
 use Rattle.server.specs.Held.{recordAt, shard, committedWord, ranWord, append}
+use Rattle.server.specs.Form.{recordFormedAt, entryFormed, logFormed, resultsFormedAt, formed}
 use Rattle.server.specs.Run.{depsOf, nextRun, withResults, stored, runOne, runGroup, turns}
 use Rattle.server.proofs.RunGroups.{over-id, over-count, group-id, group-long, group-deps, group-committed-word, group-count, group-ran}
 use Rattle.server.proofs.RunTurns.{turns-none, turns-stop, turns-more}
@@ -94,3 +100,11 @@ unfolding runOne
 one-stored n u k done log p q r =
     ap (λ (l : Log). record { id = n .id; records = set (n .records) u (withResults (done .values) (recordAt n u)); counters = done .counters; log = l }) r
     ∙ ap (stored n u) (q ∙ ap (λ (x : ℕ). execute (recordAt n u .pieces) x (n .counters)) p)
+
+-- a log in form has room to count
+pub formed-count : (s : Server) → formed s ≡ true → s .log .count ≤ 64
+unfolding formed logFormed
+formed-count s e =
+    leb-true (s .log .count) 64 (and-yes-l (leb (s .log .count) 64) (allBelow (entryFormed s) (s .log .count))
+    (and-yes-r (not (badServer (s .id)) && allBelow (recordFormedAt s) 64) (logFormed s)
+    (and-yes-l (not (badServer (s .id)) && allBelow (recordFormedAt s) 64 && logFormed s) (allBelow (resultsFormedAt s) 64) e)))
