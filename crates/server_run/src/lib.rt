@@ -1,11 +1,16 @@
 // A fresh server, a run, runs until nothing is ready, and the wanted set.
 ghost use mathlib.Core.Path.{_≡_};
-ghost use Rattle.server.specs.Host.{fresh};
+ghost use Rattle.server.specs.Run.{run, runAll};
+ghost use Rattle.server.specs.Host.{fresh, wanted};
+use rules::Set;
 use server::Begun;
+use server::Ran;
 use server::Server;
+use server::Wants;
 
 mod first; // first.rt: what is there at first
 mod gather; // gather.rt: what the records say, in one pass
+mod running; // running.rt: runs one after the other
 
 // What one pass over the records gathers for a run: the direct dependencies of each number, the committed numbers, and those that have run.
 pub struct Survey {
@@ -27,4 +32,52 @@ pub fn fresh(s: Server, id: u32) -> Begun
     }
     let server = first::fresh_server(id);
     Begun { refusal: 0, server }
+}
+
+// One run, and how many numbers ran; 13 where the lent server breaks its form.
+pub fn run(s: Server) -> Ran
+    ensures { λ r. ⌜ r ≡ run s ⌝ }
+{
+    let fine = server_form::formed(s);
+    if fine {
+        return running::repeated(s, 1);
+    }
+    Ran {
+        refusal: 13,
+        many: 0,
+        server: s,
+    }
+}
+
+// Runs until nothing is ready, and how many numbers ran in all. No more than 64 runs are ever needed: each runs a number that had not run.
+pub fn run_all(s: Server) -> Ran
+    ensures { λ r. ⌜ r ≡ runAll s ⌝ }
+{
+    let fine = server_form::formed(s);
+    if fine {
+        return running::repeated(s, 64);
+    }
+    Ran {
+        refusal: 13,
+        many: 0,
+        server: s,
+    }
+}
+
+// The numbers that committed sets name and that are not committed here, shard by shard.
+pub fn wanted(s: Server) -> Wants
+    ensures { λ r. ⌜ r ≡ wanted s ⌝ }
+{
+    let fine = server_form::formed(s);
+    if fine {
+        let set = gather::wanted_set(s);
+        return Wants { refusal: 0, set };
+    }
+    let set = Set {
+        w0: 0,
+        w1: 0,
+        w2: 0,
+        w3: 0,
+    };
+    Wants { refusal: 13, set }
 }
