@@ -2,7 +2,7 @@
 use Rattle.xdr.specs.Form.{reads-when, reads-none, count-small}
 use Rattle.rules.specs.Pieces.{noPieces}
 use Rattle.wire.specs.Parts.{pieces}
-use Rattle.codec.proofs.Reading.{pieces-read}
+use Rattle.codec.proofs.ReadParts.{pieces-read}
 use borrow.Author.Needs.{needs}
 use Rattle.codec.proofs.get_arrays.get_pieces_if.Statement.{statement}
 use Rattle.codec.proofs.get_arrays.get_pieces_if.Tie as tie

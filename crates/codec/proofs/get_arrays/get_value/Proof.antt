@@ -1,7 +1,7 @@
 -- A number and a flag read a result. Assumes nothing.
 use mir.Syntax.{w32}
 use mir.Facts.{toZ-ofZ}
-use Rattle.codec.proofs.Reading.{value-read}
+use Rattle.codec.proofs.ReadParts.{value-read}
 use Rattle.wire.specs.Parts.{value}
 use borrow.Author.Needs.{needs}
 use Rattle.codec.proofs.get_arrays.get_value.Statement.{statement}

@@ -2,7 +2,7 @@
 use Rattle.xdr.specs.Form.{reads-when, reads-none, count-small}
 use Rattle.rules.specs.Values.{noValues}
 use Rattle.wire.specs.Parts.{values}
-use Rattle.codec.proofs.Reading.{values-read}
+use Rattle.codec.proofs.ReadParts.{values-read}
 use borrow.Author.Needs.{needs}
 use Rattle.codec.proofs.get_arrays.get_values_if.Statement.{statement}
 use Rattle.codec.proofs.get_arrays.get_values_if.Tie as tie

@@ -1,5 +1,5 @@
 -- A flag, and then the ballot and the set where it is set. Assumes nothing.
-use Rattle.codec.proofs.Reading.{maybe-vote-read}
+use Rattle.codec.proofs.ReadParts.{maybe-vote-read}
 use borrow.Author.Needs.{needs}
 use Rattle.codec.proofs.get_parts.get_maybe_vote.Statement.{statement}
 use Rattle.codec.proofs.get_parts.get_maybe_vote.Tie as tie

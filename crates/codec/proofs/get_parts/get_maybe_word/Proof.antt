@@ -1,5 +1,5 @@
 -- A flag, and then the word where it is set. Assumes nothing.
-use Rattle.codec.proofs.Reading.{maybe-word-read}
+use Rattle.codec.proofs.ReadParts.{maybe-word-read}
 use borrow.Author.Needs.{needs}
 use Rattle.codec.proofs.get_parts.get_maybe_word.Statement.{statement}
 use Rattle.codec.proofs.get_parts.get_maybe_word.Tie as tie
