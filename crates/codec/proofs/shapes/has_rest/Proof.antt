@@ -1,0 +1,15 @@
+-- The tests joined are the definition. Assumes nothing.
+use mathlib.Core.Path.{refl}
+use Rattle.codec.specs.Sections.{long}
+use Rattle.codec.proofs.shapes.has_rest.Statement.{statement}
+use Rattle.codec.proofs.shapes.has_rest.Tie as tie
+use Rattle.codec.proofs.shapes.has_rest.Reads as reads
+use Rattle.codec.proofs.shapes.has_rest.Lts as lts
+
+-- src/shapes.rt:64:1
+returns : tie.Need-returns
+unfolding long
+returns c = refl
+
+pub has-rest-spec : {M : Type 1} → statement M
+has-rest-spec = tie.close (tie.spec returns)

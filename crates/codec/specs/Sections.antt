@@ -1,0 +1,63 @@
+-- A message's fields after its code, in two sections: the front (T, server, ballot, promise), which a message has many of, and the rest.
+use mathlib.Core.Bool.{Bool, _||_}
+use Prim.Native.Nat.{ℕ}
+use Rattle.xdr.specs.Form.{Form, u32, u64, _then_, when}
+use Rattle.rules.specs.declared.Pieces.{Pieces}
+use Rattle.rules.specs.declared.Set.{Set}
+use Rattle.rules.specs.declared.MaybeWord.{MaybeWord}
+use Rattle.rules.specs.declared.MaybeVote.{MaybeVote}
+use Rattle.rules.specs.declared.Values.{Values}
+use Rattle.rules.specs.Pieces.{noPieces}
+use Rattle.rules.specs.Sets.{noSet}
+use Rattle.rules.specs.Maybe.{noWord, noVote}
+use Rattle.rules.specs.Values.{noValues}
+use Rattle.wire.specs.declared.Message.{Message}
+use Rattle.wire.specs.declared.Shape.{Shape}
+use Rattle.wire.specs.Parts.{pieces, set4, prepared, values}
+
+abbrev pub Front : Type 0
+Front = ((ℕ × ℕ) × ℕ) × ℕ
+
+unfoldable pub front : Shape → Form Front
+front h = u32 then when 0 u32 (h .server) then when 0 u32 (h .ballot) then when 0 u32 (h .promise)
+
+abbrev pub Rest : Type 0
+Rest = (((Pieces × Set) × ℕ) × (MaybeWord × MaybeVote)) × Values
+
+unfoldable pub rest : Shape → Form Rest
+rest h =
+    when noPieces pieces (h .pieces)
+    then when noSet set4 (h .set)
+    then when 0 u64 (h .word)
+    then when (noWord, noVote) prepared (h .prepared)
+    then when noValues values (h .values)
+
+abbrev pub noRest : Rest
+noRest = ((((noPieces, noSet), 0), (noWord, noVote)), noValues)
+
+-- a message has some of the rest
+unfoldable pub long : Shape → Bool
+long h = (((h .pieces || h .set) || h .word) || h .prepared) || h .values
+
+abbrev pub frontOf : Message → Front
+frontOf m = (((m .t, m .server), m .ballot), m .promise)
+
+abbrev pub restOf : Message → Rest
+restOf m = ((((m .pieces, m .set), m .word), (m .arrival, m .accepted)), m .values)
+
+-- a message from its code, front and rest
+abbrev pub joined : ℕ → Front → Rest → Message
+joined k f x =
+    record {
+      code = k;
+      t = f .0 .0 .0;
+      server = f .0 .0 .1;
+      ballot = f .0 .1;
+      promise = f .1;
+      pieces = x .0 .0 .0 .0;
+      set = x .0 .0 .0 .1;
+      word = x .0 .0 .1;
+      arrival = x .0 .1 .0;
+      accepted = x .0 .1 .1;
+      values = x .1;
+    }
