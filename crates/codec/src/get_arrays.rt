@@ -48,7 +48,12 @@ pub fn get_piece_list(s: &[u8], c: Cursor, n: usize) -> GotPieceList
     requires { ⌜ n ≤ 8 ⌝ }
     ensures { λ r. ⌜ (r .v ≡ many-get piece n (now (s .entry)) c .v ++ replicate (8 - n) noPiece) × (r .next ≡ many-get piece n (now (s .entry)) c .next) ⌝ }
 {
-    let mut v = [Piece { shard: 0, key: 0, kind: 0, operand: 0 }; 8];
+    let mut v = [Piece {
+        shard: 0,
+        key: 0,
+        kind: 0,
+        operand: 0,
+    }; 8];
     let mut cur = c;
     let mut i = 0;
     while i < n {
@@ -80,7 +85,12 @@ pub fn get_pieces_if(has: bool, s: &[u8], c: Cursor) -> GotPieces
         let v = Pieces { list, count };
         return GotPieces { v, next };
     }
-    let list = [Piece { shard: 0, key: 0, kind: 0, operand: 0 }; 8];
+    let list = [Piece {
+        shard: 0,
+        key: 0,
+        kind: 0,
+        operand: 0,
+    }; 8];
     let v = Pieces { list, count: 0 };
     GotPieces { v, next: c }
 }

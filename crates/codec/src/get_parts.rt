@@ -69,7 +69,12 @@ pub fn get_set_if(has: bool, s: &[u8], c: Cursor) -> GotSet
     if has {
         return get_set(s, c);
     }
-    let v = Set { w0: 0, w1: 0, w2: 0, w3: 0 };
+    let v = Set {
+        w0: 0,
+        w1: 0,
+        w2: 0,
+        w3: 0,
+    };
     GotSet { v, next: c }
 }
 
@@ -132,10 +137,27 @@ pub fn get_prepared_if(has: bool, s: &[u8], c: Cursor) -> GotPrepared
         let b = get_maybe_vote(s, c1);
         let accepted = b.v;
         let next = b.next;
-        return GotPrepared { arrival, accepted, next };
+        return GotPrepared {
+            arrival,
+            accepted,
+            next,
+        };
     }
     let arrival = MaybeWord { some: 0, word: 0 };
-    let set = Set { w0: 0, w1: 0, w2: 0, w3: 0 };
-    let accepted = MaybeVote { some: 0, ballot: 0, set };
-    GotPrepared { arrival, accepted, next: c }
+    let set = Set {
+        w0: 0,
+        w1: 0,
+        w2: 0,
+        w3: 0,
+    };
+    let accepted = MaybeVote {
+        some: 0,
+        ballot: 0,
+        set,
+    };
+    GotPrepared {
+        arrival,
+        accepted,
+        next: c,
+    }
 }

@@ -10,10 +10,10 @@ use shapes::shape_of;
 use wire::Decoded;
 use xdr::Cursor;
 
-pub mod shapes;
-pub mod get_parts;
-pub mod get_arrays;
 pub mod decoding;
+pub mod get_arrays;
+pub mod get_parts;
+pub mod shapes;
 
 // The message that the bytes say, or the number of the first fault and the blank message.
 pub fn decode(bytes: &[u8]) -> Decoded

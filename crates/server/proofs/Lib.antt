@@ -1,2 +1,3 @@
 pub mod RunGroups
 pub mod RunTurns
+pub mod Unchanged
