@@ -14,6 +14,8 @@ pub mod shapes;
 pub mod get_parts;
 pub mod get_arrays;
 pub mod decoding;
+pub mod put_parts;
+pub mod put_arrays;
 
 // The message that the bytes say, or the number of the first fault and the blank message.
 pub fn decode(bytes: &[u8]) -> Decoded

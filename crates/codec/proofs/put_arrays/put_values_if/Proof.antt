@@ -1,0 +1,71 @@
+-- The flag decides; the count is written, and then the entries. Assumes nothing.
+use mathlib.Core.Path.{sym, _∙_}
+use native.Mathlib.Omega.{arith}
+use lib.ListN.{length-map}
+use Rattle.xdr.specs.Over.{put-none, put-by}
+use Rattle.xdr.specs.Word.{be-length}
+use Rattle.codec.proofs.WriteParts.{values-room, values-put}
+use borrow.Author.Needs.{needs}
+use Rattle.codec.proofs.put_arrays.put_values_if.Statement.{statement}
+use Rattle.codec.proofs.put_arrays.put_values_if.Tie as tie
+use Rattle.codec.proofs.put_arrays.put_values_if.Reads as reads
+use Rattle.codec.proofs.put_arrays.put_values_if.Lts as lts
+use Rattle.codec.proofs.put_arrays.put_value_list.Reads as put-value-list-reads
+use Rattle.codec.proofs.put_parts.put_u32_at.Reads as put-u32-at-reads
+
+-- src/put_arrays.rt:74:13
+put-u32-at-requires : tie.Need-put-u32-at-requires
+put-u32-at-requires c κs =
+    let c₀ = c .before .before .before .before in
+    let a = c₀ .args in
+    let t = c .before .before .if1 .taken in
+    let n = c₀ .pre .1 t in
+    let l = sym (length-map (a .v .list) _) ∙ c₀ .good .1 .1 .1 .0 .1 .1 .0 .1 .0 .1 in
+    let h = values-room (a .at) (a .v) (a .out .now) n l (rw t at (c₀ .pre .0)) in
+    omega arith
+
+-- src/put_arrays.rt:75:45
+cast-put-value-list : tie.Need-cast-put-value-list
+cast-put-value-list c = search needs
+
+-- src/put_arrays.rt:75:9
+put-value-list-requires : tie.Need-put-value-list-requires
+put-value-list-requires c κs =
+    let c₀ = c .before .before .before .before .before .before .before .before in
+    let a = c₀ .args in
+    let t = c .before .before .before .before .before .before .if1 .taken in
+    let n = c₀ .pre .1 t in
+    let l = sym (length-map (a .v .list) _) ∙ c₀ .good .1 .1 .1 .0 .1 .1 .0 .1 .0 .1 in
+    let h = values-room (a .at) (a .v) (a .out .now) n l (rw t at (c₀ .pre .0)) in
+    let e = put-by (be-length 4 _) (c .before .before .before .put-u32-at .ensures) in
+    (n, omega arith)
+
+-- src/put_arrays.rt:75:9
+same-length : tie.Need-same-length
+same-length c = search needs
+
+-- src/put_arrays.rt:75:9
+returns : tie.Need-returns
+returns c =
+    let c₀ = c .before .before .before .before .before .before .before .before .before .before .before in
+    let a = c₀ .args in
+    let t = c .before .before .before .before .before .before .before .before .before .if1 .taken in
+    let n = c₀ .pre .1 t in
+    let l = sym (length-map (a .v .list) _) ∙ c₀ .good .1 .1 .1 .0 .1 .1 .0 .1 .0 .1 in
+    let h = values-room (a .at) (a .v) (a .out .now) n l (rw t at (c₀ .pre .0)) in
+    rw t (values-put (a .at) (a .v) (a .out .now) n l (omega arith) (c .before .before .before .before .before .before .put-u32-at .ensures) (c .before .before .put-value-list .ensures))
+
+-- src/put_arrays.rt:66:1
+returns-2 : tie.Need-returns-2
+returns-2 c = rw (c .if1 .left) (put-none _ _)
+
+pub put-values-if-spec : {M : Type 1} → statement M
+put-values-if-spec =
+    tie.close
+    (tie.spec
+    put-u32-at-requires
+    cast-put-value-list
+    put-value-list-requires
+    same-length
+    returns
+    returns-2)

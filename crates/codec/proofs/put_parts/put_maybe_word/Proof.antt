@@ -1,0 +1,34 @@
+-- A flag is written, and then the word where it is set. Assumes nothing.
+use native.Mathlib.Omega.{arith}
+use Rattle.rules.specs.Flags.{there}
+use Rattle.wire.proofs.Lengths.{bool-length, maybe-word-length}
+use Rattle.codec.proofs.WriteParts.{maybe-word-put}
+use borrow.Author.Needs.{needs}
+use Rattle.codec.proofs.put_parts.put_maybe_word.Statement.{statement}
+use Rattle.codec.proofs.put_parts.put_maybe_word.Tie as tie
+use Rattle.codec.proofs.put_parts.put_maybe_word.Reads as reads
+use Rattle.codec.proofs.put_parts.put_maybe_word.Lts as lts
+use Rattle.codec.proofs.put_parts.put_bool_at.Reads as put-bool-at-reads
+use Rattle.codec.proofs.put_parts.put_u64_if.Reads as put-u64-if-reads
+
+-- src/put_parts.rt:87:9
+put-bool-at-requires : tie.Need-put-bool-at-requires
+put-bool-at-requires c κs = omega (arith, maybe-word-length (c .before .before .before .args .v))
+
+-- src/put_parts.rt:88:5
+put-u64-if-requires : tie.Need-put-u64-if-requires
+put-u64-if-requires c κs =
+    let v = c .before .before .before .before .before .before .before .args .v in
+    omega (arith, maybe-word-length v, bool-length (there (v .some)))
+
+-- src/put_parts.rt:82:1
+same-length : tie.Need-same-length
+same-length c = search needs
+
+-- src/put_parts.rt:82:1
+returns : tie.Need-returns
+returns c = maybe-word-put _ _ (c .before .before .before .before .before .before .before .before .before .before .args .v) (c .before .before .before .before .before .before .before .before .before .before .pre) (c .before .before .before .before .before .before .put-bool-at .ensures) (c .before .before .put-u64-if .ensures)
+
+pub put-maybe-word-spec : {M : Type 1} → statement M
+put-maybe-word-spec =
+    tie.close (tie.spec put-bool-at-requires put-u64-if-requires same-length returns)
