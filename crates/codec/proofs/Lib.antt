@@ -1,3 +1,3 @@
-pub mod ReadParts
 pub mod ReadWhole
-pub mod WriteParts
+pub mod WriteWhole
+pub mod EncodeWhole

@@ -1,14 +1,14 @@
 -- How many bytes each part of a message takes. Assumes nothing.
-use mathlib.Core.Path.{_≡_, refl, sym, ap, _∙_}
+use mathlib.Core.Path.{_≡_, refl}
 use mathlib.Core.Bool.{Bool, true, false}
-use mathlib.Core.List.{List, _++_}
+use mathlib.Core.List.{_++_}
 use Prim.Native.Nat.{ℕ, _+_, _*_, _≤_}
 use native.Mathlib.Omega.{arith}
 use lib.IntN.{ℤ}
-use lib.ListN.{length, length-append, take}
-use Rattle.xdr.specs.Word.{be, be-length}
+use lib.ListN.{length, length-append}
+use Rattle.xdr.specs.Word.{be}
 use Rattle.xdr.specs.Array.{flat-first}
-use Rattle.xdr.specs.Form.{Form, u32, u64, int, flag as bool, _then_, when, flat}
+use Rattle.xdr.specs.Form.{u32, u64, int, flag as bool, _then_, when}
 use Rattle.rules.specs.declared.Piece.{Piece}
 use Rattle.rules.specs.declared.Pieces.{Pieces}
 use Rattle.rules.specs.declared.Set.{Set}
