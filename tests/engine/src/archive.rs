@@ -55,6 +55,7 @@ fn judged<T>(number: u32, answer: T) -> Result<T, Refusal> {
     }
 }
 
+#[derive(Clone, Copy, Debug, Default)]
 pub struct Archive;
 
 // Each call lends states and slices that are good, aligned and apart from each other for its time: Rust's own references are.
