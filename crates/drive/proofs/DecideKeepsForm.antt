@@ -1,50 +1,40 @@
 -- A drive in form decides to a drive in form: a new phase begins with no answers, and with a set that keeps rule 3. Assumes nothing.
 use mathlib.Core.Path.{_≡_, refl, sym, _∙_, ap, subst}
-use mathlib.Core.Logic.{_⊎_, inl, inr, _≢_}
-use mathlib.Core.Bool.{Bool, true, false, not, cond, _&&_, _||_, false≢true, true≢false}
+use mathlib.Core.Bool.{Bool, true, false, not, cond, _&&_}
 use mathlib.Core.List.{List}
-use Prim.Native.Nat.{ℕ, zero, suc, _+_, _*_, _/_, _%_, _^_, _≤_, _<_, max}
+use Prim.Native.Nat.{ℕ, zero, suc, _≤_, _<_}
 use native.Mathlib.Omega.{arith}
-use native.Mathlib.Decide.{decLe, decLt, ℕ-discrete}
-use borrow.Author.Tests.{eqb-true, eqb-false, eq-eqb, ne-eqb, ltb-true, ltb-false, lt-ltb, le-ltb, leb-true, le-leb}
-use lib.Dec.{eqb, ltb, leb, lit<, lit≤}
-use lib.ListN.{length, getD, set, replicate}
-use lib.Seq.{getD-set-same, getD-set-other}
+use borrow.Author.Tests.{eqb-true, eq-eqb, lt-ltb, le-leb}
+use lib.Dec.{eqb, ltb, leb, lit≤}
+use lib.ListN.{getD, set, replicate}
 use Rattle.masks.specs.Bits.{In, has, none, union}
-use Rattle.masks.specs.Folds.{allBelow, countBelow, unionOf}
-use Rattle.masks.proofs.Bools.{and-yes, and-yes-l, and-yes-r, and-no-l, or-no-l, or-no-r, or-yes-l, or-yes-r, not-yes, not-no, true-and-false, not-true-false, true-or-false}
+use Rattle.masks.specs.Folds.{countBelow, unionOf}
+use Rattle.masks.proofs.Bools.{and-yes, and-yes-l, and-yes-r, or-yes-r, not-yes, true-and-false}
 use Rattle.masks.proofs.Laws.{has-in, in-has, not-has, in-lt, not-in-none}
-use Rattle.masks.proofs.FoldLaws.{all-at, all-of, in-unions, unions-cong, iter-keeps, no-all, mask-bound}
+use Rattle.masks.proofs.FoldLaws.{in-unions, unions-cong, iter-keeps, no-all, mask-bound}
 use Rattle.rules.specs.declared.Pieces.{Pieces}
 use Rattle.rules.specs.declared.Set.{Set}
-use Rattle.rules.specs.Choice.{_if_else_}
 use Rattle.rules.specs.Flags.{there, implies}
-use Rattle.rules.specs.Cluster.{serverOf, shardOf, badNumber, badServer, badCoordinator}
-use Rattle.rules.specs.Ballots.{firstRecovery, lastBallot, step, origin, recovery, badBallot, recoversWith, mayUse, nextAbove, noNext}
-use Rattle.rules.specs.Pieces.{tooMany, piecesKept, shardsOf}
+use Rattle.rules.specs.Cluster.{serverOf, badNumber, badCoordinator}
+use Rattle.rules.specs.Ballots.{badBallot, mayUse}
+use Rattle.rules.specs.Pieces.{piecesKept, shardsOf}
 use Rattle.rules.specs.Sets.{word, badSet}
 use Rattle.rules.proofs.PiecesKept.{kept-is, kept-touches, kept-has-shard}
-use Rattle.rules.proofs.BallotOwners.{is-recovery, recovery-ballot, origin-may-use, recovery-may-use}
-use Rattle.rules.proofs.NextIsSmallest.{next-is, not-past}
 use Rattle.rules.proofs.SetLaws.{WordKept, kept-set, word-of}
-use Rattle.wire.specs.declared.Message.{Message}
-use Rattle.wire.specs.Codes.{shapeOf, PreAcceptOK, AcceptOK, PrepareOK, Done, Behind, Prepare}
-use Rattle.wire.specs.Faults.{badNumbers, badSets}
+use Rattle.wire.specs.Codes.{Done}
 use Rattle.drive.specs.declared.Answer.{Answer}
 use Rattle.drive.specs.declared.Drive.{Drive}
-use Rattle.drive.specs.declared.Moved.{Moved}
-use Rattle.drive.specs.Held.{noAnswer, noAnswers, answerAt, counted, touched, addressed, began, toPhase, toPhase1, withAnswer, withPromise}
-use Rattle.drive.specs.Decide.{answered, allAnswered, countedIn, twoIn, twoInEach, decided, hasWord, hasAccepted, wordIn, unionIn, unions, better, highest, decide}
-use Rattle.drive.specs.Form.{numbersFormed, ballotsFormed, wordFormed, acceptedFormed, answerFormed, tooFew, setFormed, formed}
-use Rattle.drive.specs.Hear.{says, answerOf, settle, count, hear, moved, refused}
-use Rattle.drive.specs.Host.{unless, startRefusal, start, recoverRefusal, recover, above, againRefusal, again, moveOnRefusal, moveOn}
-use Rattle.drive.proofs.Passed.{Passed, Counts, Kind, prepared, preAccepted, accepted, Hears, isDone, isBehind, isOK, Replied, refuses, takes, replied}
-use Rattle.drive.proofs.FormParts.{Formed, formed-parts, parts-formed, phase-below}
+use Rattle.drive.specs.Held.{noAnswer, noAnswers, answerAt, counted, touched, addressed, toPhase, toPhase1}
+use Rattle.drive.specs.Decide.{answered, allAnswered, twoIn, twoInEach, decided, hasWord, hasAccepted, wordIn, unionIn, unions, better, highest, decide}
+use Rattle.drive.specs.Form.{numbersFormed, ballotsFormed, wordFormed, acceptedFormed, answerFormed, tooFew, setFormed}
+use Rattle.drive.specs.Hear.{says}
+use Rattle.drive.proofs.Passed.{accepted, takes}
+use Rattle.drive.proofs.FormParts.{Formed}
 use Rattle.drive.proofs.Decided.{Decision, highest2, equal2, again1, quick3, union2, voted3, decision, then-yes, yes-then}
 
 -- ---- with no answers counted
 
-nobody : (s : ℕ) → there (getD noAnswers s noAnswer .counted) ≡ false
+pub nobody : (s : ℕ) → there (getD noAnswers s noAnswer .counted) ≡ false
 nobody s = ap (λ (a : Answer). there (a .counted)) (go 12 s)
   where
     go : (n s : ℕ) → getD (replicate n noAnswer) s noAnswer ≡ noAnswer
@@ -53,7 +43,7 @@ nobody s = ap (λ (a : Answer). there (a .counted)) (go 12 s)
     go (suc n) (suc s) = go n s
 
 -- a transaction touches some shard
-some-touched : (ps : Pieces) → piecesKept ps ≡ true → (k : ℕ) × (k < 4) × (has (shardsOf ps) k ≡ true)
+pub some-touched : (ps : Pieces) → piecesKept ps ≡ true → (k : ℕ) × (k < 4) × (has (shardsOf ps) k ≡ true)
 unfolding shardsOf
 some-touched ps e =
     let k = kept-is ps e in
@@ -73,7 +63,7 @@ module _ (d : Drive) (ea : d .answers ≡ noAnswers) (kept : piecesKept (d .piec
   not-two =
       let t = some-touched (d .pieces) kept in
       no-all (twoIn d) 4 (t .0) (t .1)
-        (rw (t .2, nobody-counted (serverOf (t .0) 0), nobody-counted (serverOf (t .0) 1), nobody-counted (serverOf (t .0) 2)))
+      (rw (t .2, nobody-counted (serverOf (t .0) 0), nobody-counted (serverOf (t .0) 1), nobody-counted (serverOf (t .0) 2)))
 
   not-all : allAnswered d ≡ false
   unfolding allAnswered answered
@@ -82,7 +72,7 @@ module _ (d : Drive) (ea : d .answers ≡ noAnswers) (kept : piecesKept (d .piec
       let k = t .0 in
       let l = t .1 in
       no-all (answered d) 12 (serverOf k 0) (omega arith)
-        (no-then (addressed (touched d) (serverOf k 0)) (counted d (serverOf k 0)) (subst (λ n. has (touched d) n ≡ true) (omega arith) (t .2)) (nobody-counted (serverOf k 0)))
+      (no-then (addressed (touched d) (serverOf k 0)) (counted d (serverOf k 0)) (subst (λ n. has (touched d) n ≡ true) (omega arith) (t .2)) (nobody-counted (serverOf k 0)))
     where
       no-then : (a b : Bool) → a ≡ true → b ≡ false → implies a b ≡ false
       no-then a b p q = cc
@@ -127,7 +117,8 @@ answer-parts d s e h =
     record {
       own = and-yes-l A N q2;
       word = λ l z. not-yes _ (then-yes (ltb (d .phase) 2 && hasWord (answerAt d s)) (not (has (answerAt d s .arrival .word) (d .t))) (and-yes-r (A && N) W q3) (and-yes _ _ (lt-ltb (d .phase) 2 l) z));
-      set = λ l z. not-yes _ (and-yes-r (not (badBallot (answerAt d s .accepted .ballot))) (not (badSet (d .t) (touched d) (answerAt d s .accepted .set))) (then-yes (eqb (d .phase) 0 && hasAccepted (answerAt d s)) (not (badBallot (answerAt d s .accepted .ballot)) && not (badSet (d .t) (touched d) (answerAt d s .accepted .set))) (and-yes-r (A && N && W) X q) (and-yes _ _ (eq-eqb (d .phase) 0 l) z))) }
+      set = λ l z. not-yes _ (and-yes-r (not (badBallot (answerAt d s .accepted .ballot))) (not (badSet (d .t) (touched d) (answerAt d s .accepted .set))) (then-yes (eqb (d .phase) 0 && hasAccepted (answerAt d s)) (not (badBallot (answerAt d s .accepted .ballot)) && not (badSet (d .t) (touched d) (answerAt d s .accepted .set))) (and-yes-r (A && N && W) X q) (and-yes _ _ (eq-eqb (d .phase) 0 l) z)));
+    }
 
 -- the server that holds the highest accepted ballot holds one
 better-accepted : (d : Drive) (s best : ℕ) → (best < 12 → hasAccepted (answerAt d best) ≡ true) → better d s best < 12 → hasAccepted (answerAt d (better d s best)) ≡ true
@@ -202,22 +193,24 @@ module _ (d : Drive) (f : Loose d) where
   to-set : (p : ℕ) → 2 ≤ p → p ≤ 3 → (v : Set) → badSet (d .t) (touched d) v ≡ false → Formed (toPhase p d v)
   unfolding numbersFormed ballotsFormed setFormed
   to-set p l l′ v e = record {
-      numbers = numbers-to p l′;
-      pieces = f .pieces;
-      ballots = ballots-to p (omega arith);
-      answers = no-answers (toPhase p d v) refl (f .pieces);
-      few = few (toPhase p d v) refl (f .pieces);
-      set = subst (λ (b : Bool). cond b (true && not (badSet (d .t) (touched d) v)) false ≡ true) (sym (le-leb 2 p l)) (ap not e) }
+    numbers = numbers-to p l′;
+    pieces = f .pieces;
+    ballots = ballots-to p (omega arith);
+    answers = no-answers (toPhase p d v) refl (f .pieces);
+    few = few (toPhase p d v) refl (f .pieces);
+    set = subst (λ (b : Bool). cond b (true && not (badSet (d .t) (touched d) v)) false ≡ true) (sym (le-leb 2 p l)) (ap not e);
+  }
 
   to-one : Formed (toPhase1 d)
   unfolding numbersFormed ballotsFormed setFormed
   to-one = record {
-      numbers = numbers-to 1 (lit≤ tt);
-      pieces = f .pieces;
-      ballots = ballots-to 1 (lit≤ tt);
-      answers = no-answers (toPhase1 d) refl (f .pieces);
-      few = few (toPhase1 d) refl (f .pieces);
-      set = refl }
+    numbers = numbers-to 1 (lit≤ tt);
+    pieces = f .pieces;
+    ballots = ballots-to 1 (lit≤ tt);
+    answers = no-answers (toPhase1 d) refl (f .pieces);
+    few = few (toPhase1 d) refl (f .pieces);
+    set = refl;
+  }
 
   decision-formed : d .phase < 3 → {e : Drive} → (highest d < 12 → d .phase ≡ 0 → hasAccepted (answerAt d (highest d)) ≡ true) → Decision d e → Formed e
   decision-formed l h (highest2 p q) = to-set 2 (lit≤ tt) (lit≤ tt) _ (highest-kept (highest d) q p (h q p))

@@ -1,18 +1,16 @@
 -- A decision leaves the drive's number, ballot, coordinator, pieces and promises, and begins with no answers; and all answers are two in each shard. Assumes nothing.
-use mathlib.Core.Path.{_≡_, refl, sym, _∙_, ap, subst}
+use mathlib.Core.Path.{_≡_, refl, subst}
 use mathlib.Core.Logic.{_≢_}
-use mathlib.Core.Bool.{Bool, true, false, not, cond, _&&_, _||_}
-use Prim.Native.Nat.{ℕ, zero, suc, _+_, _*_, _/_, _<_}
+use mathlib.Core.Bool.{Bool, true, false, cond, _&&_}
+use Prim.Native.Nat.{ℕ, _<_}
 use native.Mathlib.Omega.{arith}
 use borrow.Author.Tests.{eqb-true, eqb-false, ltb-true}
 use lib.Dec.{eqb, ltb, leb, lit<}
 use Rattle.masks.specs.Bits.{has}
-use Rattle.masks.specs.Folds.{allBelow, countBelow}
+use Rattle.masks.specs.Folds.{countBelow}
 use Rattle.masks.proofs.FoldLaws.{all-at, all-of}
-use Rattle.rules.specs.declared.Set.{Set}
-use Rattle.rules.specs.Choice.{_if_else_}
 use Rattle.rules.specs.Flags.{implies}
-use Rattle.rules.specs.Cluster.{serverOf, shardOf}
+use Rattle.rules.specs.Cluster.{serverOf}
 use Rattle.drive.specs.declared.Drive.{Drive}
 use Rattle.drive.specs.Held.{counted, touched, addressed, toPhase, toPhase1, answerAt}
 use Rattle.drive.specs.Decide.{answered, allAnswered, countedIn, twoIn, twoInEach, decided, equalWords, highest, unions, decide0, decide1, decide2, decide}

@@ -1,12 +1,11 @@
 -- A drive's form, part by part. Assumes nothing.
-use mathlib.Core.Path.{_≡_, refl}
-use mathlib.Core.Bool.{Bool, true, false, not, _&&_, _||_}
+use mathlib.Core.Path.{_≡_}
+use mathlib.Core.Bool.{true, not, _&&_}
 use Prim.Native.Nat.{ℕ, _≤_, _<_}
 use lib.Dec.{leb}
-use borrow.Author.Tests.{leb-true, ltb-false}
-use native.Mathlib.Omega.{arith}
+use borrow.Author.Tests.{leb-true}
 use Rattle.masks.specs.Folds.{allBelow}
-use Rattle.masks.proofs.Bools.{and-yes, and-yes-l, and-yes-r, not-yes}
+use Rattle.masks.proofs.Bools.{and-yes, and-yes-l, and-yes-r}
 use Rattle.masks.proofs.FoldLaws.{all-at, all-of}
 use Rattle.rules.specs.Cluster.{badNumber, badCoordinator}
 use Rattle.rules.specs.Pieces.{piecesKept}
@@ -35,7 +34,8 @@ formed-parts d e =
       ballots = and-yes-r (numbersFormed d && piecesKept (d .pieces)) (ballotsFormed d) e2;
       answers = λ s l. all-at (answerFormed d) 12 s (and-yes-r (numbersFormed d && piecesKept (d .pieces) && ballotsFormed d) a e3) l;
       few = and-yes-r (numbersFormed d && piecesKept (d .pieces) && ballotsFormed d && a) (tooFew d) e4;
-      set = and-yes-r (numbersFormed d && piecesKept (d .pieces) && ballotsFormed d && a && tooFew d) (setFormed d) e }
+      set = and-yes-r (numbersFormed d && piecesKept (d .pieces) && ballotsFormed d && a && tooFew d) (setFormed d) e;
+    }
 
 pub parts-formed : (d : Drive) → Formed d → formed d ≡ true
 unfolding formed

@@ -1,63 +1,55 @@
 -- Whatever a host or a reply says to a drive in form, the drive is in form after it; and start and recover make drives in form. Assumes nothing.
 use mathlib.Core.Path.{_≡_, refl, sym, _∙_, ap, subst}
-use mathlib.Core.Logic.{_⊎_, inl, inr, _≢_}
-use mathlib.Core.Bool.{Bool, true, false, not, cond, _&&_, _||_, false≢true}
+use mathlib.Core.Logic.{_≢_}
+use mathlib.Core.Bool.{Bool, true, false, not, cond, _&&_, _||_}
 use mathlib.Core.List.{List}
 use Prim.Native.Nat.{ℕ, _%_, _≤_, _<_, max}
 use native.Mathlib.Omega.{arith}
 use native.Mathlib.Decide.{decLe, decLt, ℕ-discrete}
-use borrow.Author.Tests.{eqb-true, eqb-false, eq-eqb, ne-eqb, ltb-true, ltb-false, lt-ltb, le-leb, lt-leb, leb-true}
-use lib.Dec.{eqb, ltb, leb, lit≤, lit<}
+use borrow.Author.Tests.{eqb-true, eqb-false, eq-eqb, ne-eqb, ltb-true, ltb-false, le-leb, lt-leb}
+use lib.Dec.{eqb, ltb, leb, lit≤}
 use lib.ListN.{length, getD, set}
 use lib.Seq.{getD-set-same, getD-set-other, set-out}
 use Rattle.masks.specs.Bits.{has}
-use Rattle.masks.proofs.Bools.{and-yes, and-yes-l, and-yes-r, or-no-l, or-no-r, or-yes-r, not-yes, not-no, true-and-false}
+use Rattle.masks.proofs.Bools.{and-yes, and-yes-l, and-yes-r, or-no-l, or-no-r, or-yes-r, not-yes, not-no}
 use Rattle.rules.specs.declared.Pieces.{Pieces}
-use Rattle.rules.specs.declared.Set.{Set}
 use Rattle.rules.specs.Choice.{_if_else_}
 use Rattle.rules.specs.Flags.{there, implies}
 use Rattle.rules.specs.Maybe.{noWord, someWord, noVote}
 use Rattle.rules.specs.Cluster.{badNumber, badServer, badCoordinator}
-use Rattle.rules.specs.Ballots.{step, origin, recovery, badBallot, recoversWith, mayUse, nextAbove, noNext}
+use Rattle.rules.specs.Ballots.{step, origin, recovery, badBallot, mayUse, nextAbove, noNext}
 use Rattle.rules.specs.Pieces.{tooMany, piecesKept, shardsOf}
 use Rattle.rules.specs.Sets.{badSet}
-use Rattle.rules.proofs.BallotOwners.{is-recovery, ballot-is, recovery-ballot, origin-may-use, recovery-may-use}
+use Rattle.rules.proofs.BallotOwners.{is-recovery, origin-may-use, recovery-may-use}
 use Rattle.rules.proofs.NextIsSmallest.{next-is, not-past}
 use Rattle.wire.specs.declared.Message.{Message}
-use Rattle.wire.specs.Codes.{shapeOf, Prepare, PreAcceptOK, AcceptOK, PrepareOK, Done, Behind}
+use Rattle.wire.specs.Codes.{shapeOf, Prepare, PreAcceptOK, PrepareOK, Done, Behind}
 use Rattle.wire.specs.Faults.{badNumbers, badSets}
 use Rattle.drive.specs.declared.Answer.{Answer}
 use Rattle.drive.specs.declared.Drive.{Drive}
 use Rattle.drive.specs.declared.Moved.{Moved}
-use Rattle.drive.specs.Held.{noAnswer, answerAt, counted, touched, addressed, began, toPhase, withAnswer, withPromise}
+use Rattle.drive.specs.Held.{noAnswer, counted, touched, addressed, began, withAnswer, withPromise}
 use Rattle.drive.specs.Decide.{answered, allAnswered, twoIn, twoInEach, decided, hasWord, hasAccepted, decide}
 use Rattle.drive.specs.Form.{numbersFormed, ballotsFormed, wordFormed, acceptedFormed, answerFormed, tooFew, setFormed, formed}
 use Rattle.drive.specs.Hear.{says, answerOf, settle, count, hear, moved, refused}
 use Rattle.drive.specs.Host.{unless, startRefusal, start, recoverRefusal, recover, above, againRefusal, again, moveOnRefusal, moveOn}
-use Rattle.drive.proofs.Passed.{Passed, Counts, Kind, prepared, preAccepted, accepted, Hears, isDone, isBehind, isOK, Replied, refuses, takes, replied}
+use Rattle.drive.proofs.Passed.{not-first, one-no, Passed, Counts, Kind, prepared, preAccepted, accepted, Hears, isDone, isBehind, isOK, Replied, refuses, takes, replied}
 use Rattle.drive.proofs.FormParts.{Formed, formed-parts, parts-formed, phase-below}
-use Rattle.drive.proofs.Decided.{then-yes, yes-then}
+use Rattle.drive.proofs.Decided.{yes-then}
 use Rattle.drive.proofs.DecideKeepsForm.{Loose, loosen, no-answers, few, decide-formed, done-formed}
-
-first-no : (b : Bool) (k r : ℕ) → k ≢ 0 → cond b k r ≡ 0 → (b ≡ false) × (r ≡ 0)
-first-no true k r h e = absurd (h e)
-first-no false k r h e = (refl, e)
-
-one-no : (a b : Bool) → (a && b) ≡ false → a ≡ true → b ≡ false
-one-no true b e h = e
-one-no false b e h = absurd (false≢true h)
 
 -- ---- a drive that begins
 
 begun-formed : (t c b p seen : ℕ) (ps : Pieces) → badNumber t ≡ false → badCoordinator c ≡ false → piecesKept ps ≡ true → mayUse c t b ≡ true → (p ≡ 0 → b ≢ 0) → p ≤ 1 → badBallot seen ≡ false → Formed (began t c b p ps seen)
 unfolding numbersFormed ballotsFormed setFormed
 begun-formed t c b p seen ps et ec ep em eb l es = record {
-    numbers = and-yes _ _ (and-yes _ _ (ap not et) (ap not ec)) (le-leb p 3 (omega arith));
-    pieces = ep;
-    ballots = and-yes _ _ (and-yes _ _ em (yes-then (eqb p 0) (not (eqb b 0)) (λ h. ap not (ne-eqb b 0 (eb (eqb-true p 0 h)))))) (ap not es);
-    answers = no-answers (began t c b p ps seen) refl ep;
-    few = few (began t c b p ps seen) refl ep;
-    set = low p l }
+  numbers = and-yes _ _ (and-yes _ _ (ap not et) (ap not ec)) (le-leb p 3 (omega arith));
+  pieces = ep;
+  ballots = and-yes _ _ (and-yes _ _ em (yes-then (eqb p 0) (not (eqb b 0)) (λ h. ap not (ne-eqb b 0 (eb (eqb-true p 0 h)))))) (ap not es);
+  answers = no-answers (began t c b p ps seen) refl ep;
+  few = few (began t c b p ps seen) refl ep;
+  set = low p l;
+}
   where
     low : (p : ℕ) → p ≤ 1 → cond (leb 2 p) (false && not (badSet t (shardsOf ps) (record { w0 = 0; w1 = 0; w2 = 0; w3 = 0 }))) true ≡ true
     low p l = subst (λ (b : Bool). cond b false true ≡ true) (sym (lt-leb 2 p (omega arith))) refl
@@ -72,21 +64,21 @@ next-may c t n ec en =
 pub start-formed : (c t : ℕ) (ps : Pieces) → startRefusal c t ps ≡ 0 → Formed (began t c 0 1 ps 0)
 unfolding startRefusal
 start-formed c t ps e =
-    let p12 = first-no (tooMany ps) 12 _ (λ z. omega arith) e in
-    let p1 = first-no (badCoordinator c || badNumber t || not (eqb c (origin t))) 1 _ (λ z. omega arith) (p12 .1) in
-    let p2 = first-no (not (piecesKept ps)) 2 0 (λ z. omega arith) (p1 .1) in
+    let p12 = not-first (tooMany ps) 12 _ (λ z. omega arith) e in
+    let p1 = not-first (badCoordinator c || badNumber t || not (eqb c (origin t))) 1 _ (λ z. omega arith) (p12 .1) in
+    let p2 = not-first (not (piecesKept ps)) 2 0 (λ z. omega arith) (p1 .1) in
     let a = or-no-l (badCoordinator c || badNumber t) (not (eqb c (origin t))) (p1 .0) in
     begun-formed t c 0 1 0 ps (or-no-r (badCoordinator c) (badNumber t) a) (or-no-l (badCoordinator c) (badNumber t) a) (not-no (piecesKept ps) (p2 .0))
-      (origin-may-use c t (eqb-true c (origin t) (not-no (eqb c (origin t)) (or-no-r (badCoordinator c || badNumber t) (not (eqb c (origin t))) (p1 .0)))))
-      (λ z. absurd (omega arith)) (lit≤ tt) refl
+    (origin-may-use c t (eqb-true c (origin t) (not-no (eqb c (origin t)) (or-no-r (badCoordinator c || badNumber t) (not (eqb c (origin t))) (p1 .0)))))
+    (λ z. absurd (omega arith)) (lit≤ tt) refl
 
 pub recover-formed : (c t : ℕ) (ps : Pieces) (floor : ℕ) → recoverRefusal c t ps floor ≡ 0 → Formed (began t c (nextAbove c floor) 0 ps 0)
 unfolding recoverRefusal
 recover-formed c t ps floor e =
-    let p12 = first-no (tooMany ps) 12 _ (λ z. omega arith) e in
-    let p1 = first-no (badCoordinator c || badNumber t) 1 _ (λ z. omega arith) (p12 .1) in
-    let p2 = first-no (not (piecesKept ps)) 2 _ (λ z. omega arith) (p1 .1) in
-    let p9 = first-no (noNext c floor) 9 0 (λ z. omega arith) (p2 .1) in
+    let p12 = not-first (tooMany ps) 12 _ (λ z. omega arith) e in
+    let p1 = not-first (badCoordinator c || badNumber t) 1 _ (λ z. omega arith) (p12 .1) in
+    let p2 = not-first (not (piecesKept ps)) 2 _ (λ z. omega arith) (p1 .1) in
+    let p9 = not-first (noNext c floor) 9 0 (λ z. omega arith) (p2 .1) in
     let ec = or-no-l (badCoordinator c) (badNumber t) (p1 .0) in
     let m = next-may c t floor ec (p9 .0) in
     begun-formed t c (nextAbove c floor) 0 0 ps (or-no-r (badCoordinator c) (badNumber t) (p1 .0)) ec (not-no (piecesKept ps) (p2 .0)) (m .0) (λ z. m .1) (lit≤ tt) refl
@@ -94,23 +86,23 @@ recover-formed c t ps floor e =
 pub again-formed : (d : Drive) → againRefusal d ≡ 0 → Formed (began (d .t) (d .coordinator) (nextAbove (d .coordinator) (above d)) 0 (d .pieces) (d .seen))
 unfolding againRefusal numbersFormed ballotsFormed
 again-formed d e =
-    let p13 = first-no (not (formed d)) 13 _ (λ z. omega arith) e in
-    let p8 = first-no (eqb (d .phase) 3) 8 _ (λ z. omega arith) (p13 .1) in
-    let p9 = first-no (noNext (d .coordinator) (above d)) 9 0 (λ z. omega arith) (p8 .1) in
+    let p13 = not-first (not (formed d)) 13 _ (λ z. omega arith) e in
+    let p8 = not-first (eqb (d .phase) 3) 8 _ (λ z. omega arith) (p13 .1) in
+    let p9 = not-first (noNext (d .coordinator) (above d)) 9 0 (λ z. omega arith) (p8 .1) in
     let f = formed-parts d (not-no (formed d) (p13 .0)) in
     let n = and-yes-l (not (badNumber (d .t)) && not (badCoordinator (d .coordinator))) (leb (d .phase) 3) (f .numbers) in
     let ec = not-yes (badCoordinator (d .coordinator)) (and-yes-r (not (badNumber (d .t))) (not (badCoordinator (d .coordinator))) n) in
     let m = next-may (d .coordinator) (d .t) (above d) ec (p9 .0) in
     begun-formed (d .t) (d .coordinator) (nextAbove (d .coordinator) (above d)) 0 (d .seen) (d .pieces) (not-yes (badNumber (d .t)) (and-yes-l (not (badNumber (d .t))) (not (badCoordinator (d .coordinator))) n)) ec (f .pieces) (m .0) (λ z. m .1) (lit≤ tt)
-      (not-yes (badBallot (d .seen)) (and-yes-r (mayUse (d .coordinator) (d .t) (d .ballot) && implies (eqb (d .phase) 0) (not (eqb (d .ballot) 0))) (not (badBallot (d .seen))) (f .ballots)))
+    (not-yes (badBallot (d .seen)) (and-yes-r (mayUse (d .coordinator) (d .t) (d .ballot) && implies (eqb (d .phase) 0) (not (eqb (d .ballot) 0))) (not (badBallot (d .seen))) (f .ballots)))
 
 -- ---- move on
 
 early : (d : Drive) → Formed d → moveOnRefusal d ≡ 0 → d .phase < 3
 unfolding moveOnRefusal
 early d f e =
-    let p13 = first-no (not (formed d)) 13 _ (λ z. omega arith) e in
-    let p8 = first-no (eqb (d .phase) 3) 8 _ (λ z. omega arith) (p13 .1) in
+    let p13 = not-first (not (formed d)) 13 _ (λ z. omega arith) e in
+    let p8 = not-first (eqb (d .phase) 3) 8 _ (λ z. omega arith) (p13 .1) in
     let n = eqb-false (d .phase) 3 (p8 .0) in
     let l = phase-below d f in
     omega arith
@@ -134,10 +126,10 @@ max-ballot a b p q = go (decLe a b)
     go (no l) = let e : a ≡ max a b = omega arith in subst (λ n. badBallot n ≡ false) e p
 
 -- what an OK of the code k says
-answerAs : Message → ℕ → Answer
+unfoldable pub answerAs : Message → ℕ → Answer
 answerAs m k = says (m .arrival) (m .accepted) if eqb k PrepareOK else says (someWord (m .word)) noVote if eqb k PreAcceptOK else says noWord noVote
 
-answer-is : (m : Message) (k : ℕ) → m .code ≡ k → answerOf m ≡ answerAs m k
+pub answer-is : (m : Message) (k : ℕ) → m .code ≡ k → answerOf m ≡ answerAs m k
 unfolding answerOf answerAs
 answer-is m k e = ap (answerAs m) e
 
@@ -211,13 +203,15 @@ module _ (d : Drive) (m : Message) (p : Passed d m) where
   behind-formed : m .code ≡ Behind → Formed (withPromise d (m .promise))
   unfolding numbersFormed ballotsFormed setFormed answerFormed tooFew decided twoInEach twoIn allAnswered answered shapeOf
   behind-formed e = record {
-      numbers = form .numbers; pieces = form .pieces;
-      ballots =
+    numbers = form .numbers;
+    pieces = form .pieces;
+    ballots =
         let M = mayUse (d .coordinator) (d .t) (d .ballot) && implies (eqb (d .phase) 0) (not (eqb (d .ballot) 0)) in
         and-yes _ _ (and-yes-l M (not (badBallot (d .seen))) (form .ballots)) (ap not (max-ballot (d .seen) (m .promise) (not-yes (badBallot (d .seen)) (and-yes-r M (not (badBallot (d .seen))) (form .ballots))) (promise-ok (shape Behind (λ k. shapeOf k .promise) e refl))));
-      answers = form .answers;
-      few = form .few;
-      set = form .set }
+    answers = form .answers;
+    few = form .few;
+    set = form .set;
+  }
 
   -- ---- an OK
 
@@ -243,8 +237,8 @@ module _ (d : Drive) (m : Message) (p : Passed d m) where
       let some : there (m .accepted .some) ≡ true = and-yes-r true (there (m .accepted .some)) (sym (ap hasAccepted a) ∙ w) in
       let q : shapeOf (m .code) .prepared ≡ true = shape PrepareOK (λ k. shapeOf k .prepared) c refl in
       and-yes _ _
-        (ap not (ap (λ (x : Answer). badBallot (x .accepted .ballot)) a ∙ vote-ok q some))
-        (ap not (ap (λ (x : Answer). badSet (d .t) (touched d) (x .accepted .set)) a ∙ subst (λ t. badSet t (touched d) (m .accepted .set) ≡ false) n (accepted-ok q some))))
+      (ap not (ap (λ (x : Answer). badBallot (x .accepted .ballot)) a ∙ vote-ok q some))
+      (ap not (ap (λ (x : Answer). badSet (d .t) (touched d) (x .accepted .set)) a ∙ subst (λ t. badSet t (touched d) (m .accepted .set) ≡ false) n (accepted-ok q some))))
   vote-formed (preAccepted c z) n = yes-then _ _ (λ h. absurd (omega (arith, eqb-true (d .phase) 0 (and-yes-l (eqb (d .phase) 0) (hasAccepted (answerOf m)) h))))
   vote-formed (accepted c z) n = yes-then _ _ (λ h. absurd (omega (arith, eqb-true (d .phase) 0 (and-yes-l (eqb (d .phase) 0) (hasAccepted (answerOf m)) h))))
 

@@ -1,23 +1,21 @@
 -- A reply that a drive does not refuse, and what it is to the drive: an OK of its phase, Done or Behind. Assumes nothing.
-use mathlib.Core.Path.{_≡_, refl, sym, _∙_, ap, subst}
+use mathlib.Core.Path.{_≡_, refl, sym, subst}
 use mathlib.Core.Logic.{_⊎_, inl, inr, _≢_}
-use mathlib.Core.Bool.{Bool, true, false, not, cond, _&&_, _||_, true≢false, false≢true}
+use mathlib.Core.Bool.{Bool, true, false, not, cond, _&&_, _||_, false≢true}
 use Prim.Native.Nat.{ℕ, _<_}
 use native.Mathlib.Omega.{arith}
 use lib.Dec.{eqb}
 use borrow.Author.Tests.{eqb-true, eqb-false, ltb-false}
-use Rattle.masks.proofs.Bools.{not-no, not-yes, or-no-l, or-no-r, or-yes, and-no, true-and-false}
-use Rattle.rules.specs.Choice.{_if_else_}
+use Rattle.masks.proofs.Bools.{not-no, or-no-l, or-no-r, or-yes}
 use Rattle.rules.specs.Cluster.{badNumber, badServer}
 use Rattle.rules.specs.Flags.{there}
 use Rattle.rules.specs.Ballots.{badBallot}
 use Rattle.wire.specs.declared.Message.{Message}
-use Rattle.wire.specs.declared.Shape.{Shape}
 use Rattle.wire.specs.Codes.{shapeOf, driveTakes, oks, Prepare, PreAcceptOK, AcceptOK, PrepareOK, Done, Behind}
 use Rattle.wire.specs.Faults.{overCount, badNumbers, badPieces, badSets}
 use Rattle.drive.specs.declared.Drive.{Drive}
 use Rattle.drive.specs.declared.Moved.{Moved}
-use Rattle.drive.specs.Held.{counted, touched, addressed, toPhase, withAnswer, withPromise}
+use Rattle.drive.specs.Held.{counted, touched, addressed, toPhase, withPromise}
 use Rattle.drive.specs.Form.{formed}
 use Rattle.drive.specs.Hear.{notTaken, otherPhase, misplaced, otherPieces, refusal, answerOf, count, heard, refused, moved, hear}
 
@@ -30,7 +28,8 @@ pub record Passed (d : Drive) (m : Message) : Type 0 where
   pub same : otherPieces d m ≡ false
   pub sets : badSets (touched d) m ≡ false
 
-not-first : (b : Bool) (k r : ℕ) → k ≢ 0 → cond b k r ≡ 0 → (b ≡ false) × (r ≡ 0)
+-- a refusal that did not fire
+pub not-first : (b : Bool) (k r : ℕ) → k ≢ 0 → cond b k r ≡ 0 → (b ≡ false) × (r ≡ 0)
 not-first true k r h e = absurd (h e)
 not-first false k r h e = (refl, e)
 
@@ -66,6 +65,14 @@ pub data Hears (d : Drive) (m : Message) : Drive → Type 0 where
   isBehind : m .code ≡ Behind → m .t ≡ d .t → d .phase ≢ 3 → Hears d m (withPromise d (m .promise))
   isOK : Kind d m → Counts d m → Hears d m (count d (m .server) (answerOf m))
 
+-- of two that are not both, the one is: the other is not
+pub one-no : (a b : Bool) → (a && b) ≡ false → a ≡ true → b ≡ false
+one-no true b e h = e
+one-no false b e h = absurd (false≢true h)
+
+both-no : (a b : Bool) → (a && not b) ≡ false → a ≡ true → b ≡ true
+both-no a b e h = not-no b (one-no a (not b) e h)
+
 server-number : (m : Message) → badNumbers m ≡ false → (shapeOf (m .code) .server && badServer (m .server)) ≡ false
 unfolding badNumbers
 server-number m e =
@@ -84,10 +91,6 @@ module _ (d : Drive) (m : Message) (p : Passed d m) where
   unfolding misplaced
   number-ok = eqb-true (m .t) (d .t) (not-no (eqb (m .t) (d .t)) (or-no-r (otherPhase (d .phase) m) _ (or-no-l _ _ (or-no-l _ _ (or-no-l _ _ (p .place))))))
 
-  both-no : (a b : Bool) → (a && not b) ≡ false → a ≡ true → b ≡ true
-  both-no true b e h = not-no b e
-  both-no false b e h = absurd (false≢true h)
-
   ballot-ok : shapeOf (m .code) .ballot ≡ true → m .ballot ≡ d .ballot
   unfolding misplaced
   ballot-ok h = eqb-true (m .ballot) (d .ballot) (both-no (shapeOf (m .code) .ballot) (eqb (m .ballot) (d .ballot)) (or-no-r (otherPhase (d .phase) m || not (eqb (m .t) (d .t))) _ (or-no-l _ _ (or-no-l _ _ (p .place)))) h)
@@ -95,10 +98,6 @@ module _ (d : Drive) (m : Message) (p : Passed d m) where
   server-ok : shapeOf (m .code) .server ≡ true → addressed (touched d) (m .server) ≡ true
   unfolding misplaced
   server-ok h = both-no (shapeOf (m .code) .server) (addressed (touched d) (m .server)) (or-no-r (otherPhase (d .phase) m || not (eqb (m .t) (d .t)) || (shapeOf (m .code) .ballot && not (eqb (m .ballot) (d .ballot)))) _ (or-no-l _ _ (p .place))) h
-
-  one-no : (a b : Bool) → (a && b) ≡ false → a ≡ true → b ≡ false
-  one-no true b e h = e
-  one-no false b e h = absurd (false≢true h)
 
   fresh-ok : oks (m .code) ≡ true → counted d (m .server) ≡ false
   unfolding misplaced

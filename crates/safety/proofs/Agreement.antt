@@ -1,19 +1,16 @@
 -- Any two chosen sets of a number are equal. Assumes nothing.
-use mathlib.Core.Path.{_≡_, refl, sym, _∙_, ap, subst}
-use mathlib.Core.Logic.{_⊎_, inl, inr}
+use mathlib.Core.Path.{_≡_, refl, sym, _∙_, subst}
 use mathlib.Core.Bool.{Bool, true, false, true≢false}
 use Prim.Native.Nat.{ℕ, zero, suc, _^_, _≤_, _<_}
 use native.Mathlib.Omega.{arith}
-use native.Mathlib.Decide.{decLt, decLe, ℕ-discrete}
-use lib.Dec.{lit<}
+use native.Mathlib.Decide.{decLe, ℕ-discrete}
 use lib.Pow.{pow-pos}
 use Rattle.masks.specs.Bits.{has}
 use Rattle.rules.specs.declared.Set.{Set}
-use Rattle.rules.specs.declared.MaybeVote.{MaybeVote}
-use Rattle.rules.specs.Flags.{there}
 use Rattle.rules.specs.Sets.{word}
+use Rattle.rules.proofs.SetLaws.{same-words}
 use Rattle.safety.proofs.Quorum.{Maj, InShard, maj-meet, all-at, all-maj, maj-map}
-use Rattle.safety.proofs.Slice.{Slice, Holds, Votes, Part, Sub, Covers, Unanimous, Prepared, PreparedBare, Free, Justified, free, highest, Proposal, Chosen, quick, voted}
+use Rattle.safety.proofs.Slice.{Slice, Covers, Unanimous, Justified, free, highest, Chosen, quick, voted}
 use Rattle.safety.proofs.Summary.{Step}
 use Rattle.safety.proofs.AcceptedBelowPromise.{AcceptedBelowPromise, accepted-kept}
 use Rattle.safety.proofs.VotesStay.{VotesStay, votes-kept}
@@ -35,23 +32,14 @@ pub record Lawful (touched : ℕ) (c : Slice) : Type 0 where
 
 pub lawful-kept : {touched : ℕ} {c c′ : Slice} → Step touched c c′ → Lawful touched c → Lawful touched c′
 lawful-kept st l = record {
-    accepted = accepted-kept st (l .accepted);
-    votes = votes-kept st (l .accepted) (l .votes);
-    promises = promises-kept st (l .accepted) (l .votes) (l .promises);
-    words = words-kept st (l .words);
-    fit = fit-kept st (l .fit);
-    proposals = proposal-kept st (l .proposals);
-    committed = committed-kept st (l .committed) }
-
--- two sets with the same words are one
-pub same-words : (v v′ : Set) → ((k : ℕ) → k < 4 → word v k ≡ word v′ k) → v ≡ v′
-unfolding word
-same-words v v′ f =
-    let e0 : v .w0 ≡ v′ .w0 = f 0 (lit< tt) in
-    let e1 : v .w1 ≡ v′ .w1 = f 1 (lit< tt) in
-    let e2 : v .w2 ≡ v′ .w2 = f 2 (lit< tt) in
-    let e3 : v .w3 ≡ v′ .w3 = f 3 (lit< tt) in
-    λ i. record { w0 = e0 i; w1 = e1 i; w2 = e2 i; w3 = e3 i }
+  accepted = accepted-kept st (l .accepted);
+  votes = votes-kept st (l .accepted) (l .votes);
+  promises = promises-kept st (l .accepted) (l .votes) (l .promises);
+  words = words-kept st (l .words);
+  fit = fit-kept st (l .fit);
+  proposals = proposal-kept st (l .proposals);
+  committed = committed-kept st (l .committed);
+}
 
 module _ {touched : ℕ} {c : Slice} where
   -- a set that covers the arrivals is the one that all the words are
@@ -64,10 +52,11 @@ module _ {touched : ℕ} {c : Slice} where
 
   unanimous-covers : ArrivalsFit c → {v : Set} → Unanimous touched c v → Covers touched c v
   unanimous-covers f {v} a = record {
-      parts = λ k t. maj-map (λ s h. record { own = _; holds = h; part = record { all = λ i z. z } }) (all-maj (a .each k t));
-      fixed = λ k t w f. f _ _ (InShard.i0 refl) (a .each k t .a0);
-      outside = a .outside;
-      fits = λ k l. fits k l (has touched k) refl }
+    parts = λ k t. maj-map (λ s h. record { own = _; holds = h; part = record { all = λ i z. z } }) (all-maj (a .each k t));
+    fixed = λ k t w f. f _ _ (InShard.i0 refl) (a .each k t .a0);
+    outside = a .outside;
+    fits = λ k l. fits k l (has touched k) refl;
+  }
     where
       fits : (k : ℕ) → k < 4 → (t : Bool) → has touched k ≡ t → word v k < 2 ^ 64
       fits k l true t = f .each _ _ (a .each k t .a0)

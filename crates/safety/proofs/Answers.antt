@@ -1,35 +1,29 @@
 -- What the answers that a drive has counted say together: two in each shard, the highest accepted ballot, the union of the words. Assumes nothing.
-use mathlib.Core.Path.{_≡_, refl, sym, _∙_, ap, subst}
-use mathlib.Core.Logic.{_⊎_, inl, inr, _≢_}
-use mathlib.Core.Bool.{Bool, true, false, not, cond, _&&_, _||_, true≢false, false≢true}
+use mathlib.Core.Path.{_≡_, refl, sym, _∙_, subst}
+use mathlib.Core.Logic.{_⊎_, inl, inr}
+use mathlib.Core.Bool.{Bool, true, false, not, cond, _&&_, false≢true}
 use Prim.Native.Nat.{ℕ, zero, suc, _+_, _*_, _/_, _^_, _≤_, _<_}
 use native.Mathlib.Omega.{arith}
-use native.Mathlib.Decide.{decLt, ℕ-discrete}
-use borrow.Author.Tests.{eqb-true, eqb-false, ltb-true, ltb-false, leb-true}
+use native.Mathlib.Decide.{ℕ-discrete}
+use borrow.Author.Tests.{eqb-true, eqb-false, ltb-true, ltb-false}
 use lib.Dec.{eqb, ltb, leb, lit<}
 use lib.Pow.{pow-pos}
 use lib.Bits.{or-zero-l, or-zero-r, or-self}
-use lib.ListN.{getD, replicate}
 use Rattle.masks.specs.Bits.{In, has, union}
-use Rattle.masks.specs.Folds.{allBelow, countBelow, unionOf, maskOf, iter}
-use Rattle.masks.proofs.Bools.{and-yes, and-yes-l, and-yes-r, true-or-false, true-and-false}
-use Rattle.masks.proofs.Laws.{has-in, in-has, in-lt, has-past}
+use Rattle.masks.specs.Folds.{allBelow, countBelow, unionOf, iter}
+use Rattle.masks.proofs.Bools.{and-yes, and-yes-l, and-yes-r, true-and-false}
+use Rattle.masks.proofs.Laws.{has-in, in-lt}
 use Rattle.masks.proofs.FoldLaws.{all-at, mask-bound, in-unions-of, unions-bound}
-use Rattle.rules.specs.Choice.{_if_else_}
-use Rattle.rules.specs.Flags.{there, implies}
-use Rattle.rules.specs.Cluster.{serverOf, shardOf}
+use Rattle.rules.specs.Cluster.{serverOf}
 use Rattle.rules.specs.Pieces.{shardsOf, touches}
-use Rattle.rules.specs.Sets.{word, setOf}
-use Rattle.drive.specs.declared.Answer.{Answer}
+use Rattle.rules.specs.Sets.{word}
 use Rattle.drive.specs.declared.Drive.{Drive}
-use Rattle.drive.specs.Held.{noAnswer, answerAt, counted, touched, addressed}
+use Rattle.drive.specs.Held.{answerAt, counted, touched, addressed}
 use Rattle.drive.specs.Decide.{answered, allAnswered, countedIn, twoIn, twoInEach, hasWord, hasAccepted, wordThere, agree, equalIn, equalWords, wordIn, unionIn, unions, better, highest}
 use Rattle.rules.specs.declared.Pieces.{Pieces}
+use Rattle.rules.proofs.SetLaws.{word-of}
+use Rattle.drive.proofs.Decided.{then-yes}
 use Rattle.safety.proofs.Quorum.{Maj, m01, m02, m12, All3, InShard, i0, i1, i2}
-
-pub then-true : (a b : Bool) → implies a b ≡ true → a ≡ true → b ≡ true
-then-true true b e h = e
-then-true false b e h = absurd (false≢true h)
 
 -- a touched shard is one of four
 pub shard-below : (ps : Pieces) (k : ℕ) → has (shardsOf ps) k ≡ true → k < 4
@@ -81,7 +75,7 @@ module _ (d : Drive) where
 
   pub two-maj : twoInEach d ≡ true → (k : ℕ) → has (touched d) k ≡ true → Maj k (λ s. counted d s ≡ true)
   unfolding twoInEach twoIn Two
-  two-maj e k t = go (two-true (countedIn d k) (then-true (has (touched d) k) (leb 2 (countBelow (countedIn d k) 3)) (all-at (twoIn d) 4 k e (shard-below (d .pieces) k t)) t))
+  two-maj e k t = go (two-true (countedIn d k) (then-yes (has (touched d) k) (leb 2 (countBelow (countedIn d k) 3)) (all-at (twoIn d) 4 k e (shard-below (d .pieces) k t)) t))
     where
       go : ((counted d (serverOf k 0) ≡ true) × (counted d (serverOf k 1) ≡ true)) ⊎ (((counted d (serverOf k 0) ≡ true) × (counted d (serverOf k 2) ≡ true)) ⊎ ((counted d (serverOf k 1) ≡ true) × (counted d (serverOf k 2) ≡ true))) → Maj k (λ s. counted d s ≡ true)
       go (inl h) = m01 (h .0) (h .1)
@@ -94,8 +88,8 @@ module _ (d : Drive) where
   counted-at : allAnswered d ≡ true → (k r : ℕ) → k < 4 → r < 3 → has (touched d) k ≡ true → counted d (serverOf k r) ≡ true
   unfolding allAnswered answered
   counted-at e k r l q t =
-      then-true (addressed (touched d) (serverOf k r)) (counted d (serverOf k r)) (all-at (answered d) 12 (serverOf k r) e (omega arith))
-        (subst (λ n. has (touched d) n ≡ true) (sym (in-shard-of k r q)) t)
+      then-yes (addressed (touched d) (serverOf k r)) (counted d (serverOf k r)) (all-at (answered d) 12 (serverOf k r) e (omega arith))
+      (subst (λ n. has (touched d) n ≡ true) (sym (in-shard-of k r q)) t)
 
   pub all-three : allAnswered d ≡ true → (k : ℕ) → has (touched d) k ≡ true → All3 k (λ s. counted d s ≡ true)
   all-three e k t =
@@ -146,13 +140,8 @@ module _ (d : Drive) where
 
   -- ---- the union of the words
 
-  pub word-unions : (k : ℕ) → k < 4 → word (unions d) k ≡ unionIn d k
-  unfolding word
-  word-unions zero l = refl
-  word-unions (suc zero) l = refl
-  word-unions (suc (suc zero)) l = refl
-  word-unions (suc (suc (suc zero))) l = refl
-  word-unions (suc (suc (suc (suc k)))) l = absurd (omega arith)
+  word-unions : (k : ℕ) → k < 4 → word (unions d) k ≡ unionIn d k
+  word-unions k l = word-of (unionIn d) k l
 
   word-at : (k r : ℕ) → hasWord (answerAt d (serverOf k r)) ≡ true → wordIn d k r ≡ answerAt d (serverOf k r) .arrival .word
   unfolding wordIn
@@ -174,11 +163,11 @@ module _ (d : Drive) where
       let q = replica k s sh in
       let e′ : hasWord (answerAt d (serverOf k (q .0))) ≡ true = subst (λ s. hasWord (answerAt d s) ≡ true) (q .2) e in
       subst (λ w. In w i) (sym (word-unions k l))
-        (in-unions-of (wordIn d k) 3 i (q .0) (q .1) (subst (λ w. In w i) (sym (word-at k (q .0) e′)) (subst (λ s. In (answerAt d s .arrival .word) i) (q .2) h)))
+      (in-unions-of (wordIn d k) 3 i (q .0) (q .1) (subst (λ w. In w i) (sym (word-at k (q .0) e′)) (subst (λ s. In (answerAt d s .arrival .word) i) (q .2) h)))
 
   -- where all the counted words of a shard are w, so is the union
   pub unions-fixed : (k w : ℕ) → k < 4 → ((r : ℕ) → r < 3 → hasWord (answerAt d (serverOf k r)) ≡ true → answerAt d (serverOf k r) .arrival .word ≡ w) →
-    (r : ℕ) → r < 3 → hasWord (answerAt d (serverOf k r)) ≡ true → word (unions d) k ≡ w
+      (r : ℕ) → r < 3 → hasWord (answerAt d (serverOf k r)) ≡ true → word (unions d) k ≡ w
   unfolding unionIn unionOf
   unions-fixed k w l f r q e = word-unions k l ∙ one-word w (wordIn d k 0) (wordIn d k 1) (wordIn d k 2) (each 0 (lit< tt)) (each 1 (lit< tt)) (each 2 (lit< tt)) (some r q e)
     where
@@ -213,11 +202,11 @@ module _ (d : Drive) where
 
   pub equal-word : equalWords d ≡ true → (s : ℕ) → s < 12 → counted d s ≡ true → hasWord (answerAt d s) ≡ true
   unfolding equalWords wordThere
-  equal-word e s l q = then-true (counted d s) (hasWord (answerAt d s)) (all-at (wordThere d) 12 s (and-yes-l (allBelow (wordThere d) 12) (allBelow (equalIn d) 4) e) l) q
+  equal-word e s l q = then-yes (counted d s) (hasWord (answerAt d s)) (all-at (wordThere d) 12 s (and-yes-l (allBelow (wordThere d) 12) (allBelow (equalIn d) 4) e) l) q
 
   agreed : (s u : ℕ) → agree d s u ≡ true → counted d s ≡ true → counted d u ≡ true → answerAt d s .arrival .word ≡ answerAt d u .arrival .word
   unfolding agree
-  agreed s u e p q = eqb-true (answerAt d s .arrival .word) (answerAt d u .arrival .word) (then-true (counted d s && counted d u) (eqb (answerAt d s .arrival .word) (answerAt d u .arrival .word)) e (and-yes (counted d s) (counted d u) p q))
+  agreed s u e p q = eqb-true (answerAt d s .arrival .word) (answerAt d u .arrival .word) (then-yes (counted d s && counted d u) (eqb (answerAt d s .arrival .word) (answerAt d u .arrival .word)) e (and-yes (counted d s) (counted d u) p q))
 
   pub record Equals (k : ℕ) : Type 0 where
     pub e01 : agree d (serverOf k 0) (serverOf k 1) ≡ true
@@ -232,7 +221,8 @@ module _ (d : Drive) where
       record {
         e01 = and-yes-l (agree d (serverOf k 0) (serverOf k 1)) (agree d (serverOf k 0) (serverOf k 2)) p;
         e02 = and-yes-r (agree d (serverOf k 0) (serverOf k 1)) (agree d (serverOf k 0) (serverOf k 2)) p;
-        e12 = and-yes-r (agree d (serverOf k 0) (serverOf k 1) && agree d (serverOf k 0) (serverOf k 2)) (agree d (serverOf k 1) (serverOf k 2)) h }
+        e12 = and-yes-r (agree d (serverOf k 0) (serverOf k 1) && agree d (serverOf k 0) (serverOf k 2)) (agree d (serverOf k 1) (serverOf k 2)) h;
+      }
 
   -- with all three counted and equal words, each is the union
   pub unions-each : equalWords d ≡ true → (k : ℕ) → k < 4 → All3 k (λ s. counted d s ≡ true) → All3 k (λ s. answerAt d s .arrival .word ≡ word (unions d) k)

@@ -1,16 +1,15 @@
 -- At each server, of two conflicting numbers with arrival words one is in the other's word. Assumes nothing.
 use mathlib.Core.Path.{_≡_, refl, sym, _∙_, ap, subst}
 use mathlib.Core.Logic.{_⊎_, inl, inr, _≢_}
-use mathlib.Core.Bool.{Bool, true, false, not, cond, _&&_, true≢false}
+use mathlib.Core.Bool.{Bool, true, false, not, cond, true≢false}
 use Prim.Native.Nat.{ℕ, _<_}
 use native.Mathlib.Omega.{arith}
 use native.Mathlib.Decide.{decLt}
 use borrow.Author.Tests.{eq-eqb}
 use lib.Dec.{eqb}
-use lib.ListN.{length, getD, List·getD-eq-default}
+use lib.ListN.{length, List·getD-eq-default}
 use Rattle.masks.specs.Bits.{In}
-use Rattle.masks.specs.Folds.{maskOf}
-use Rattle.masks.proofs.Bools.{and-yes, true-and-false}
+use Rattle.masks.proofs.Bools.{and-yes}
 use Rattle.masks.proofs.Laws.{has-in}
 use Rattle.masks.proofs.FoldLaws.{has-mask-below}
 use Rattle.rules.specs.declared.Pieces.{Pieces}
@@ -27,14 +26,13 @@ use Rattle.server.specs.Held.{noRecord, recordAt, arrivedAt, shard}
 use Rattle.server.specs.Serve.{cameEarlier, arrivalSet, fixes, arrivalFor}
 use Rattle.server.proofs.Passed.{Passed, number-below}
 use Rattle.server.proofs.Did.{Did, tells, isDone, preAcceptsFirst, preAcceptsAgain, accepts, prepares, commitsFirst}
-use Rattle.server.proofs.RunLeaves.{SameHeld}
 use Rattle.safety.specs.Cluster.{World, Cluster, ran, Reaches}
 use Rattle.safety.proofs.Slice.{Holds}
 use Rattle.safety.proofs.View.{recordOf, put-all}
 use Rattle.safety.proofs.Serving.{after, was-sent, all-records}
 use Rattle.safety.proofs.Kept.{Kept}
 use Rattle.safety.proofs.Changes.{Change, serves, hasRun, sent, quiet}
-use Rattle.safety.proofs.Conflicts.{conflict-sym}
+use Rattle.rules.proofs.ConflictIs.{conflict-turned}
 use Rattle.safety.proofs.PiecesNamed.{Named, runs-leave}
 
 -- the server z, as the server s, keeps it
@@ -74,8 +72,8 @@ module _ (w : World) (c : Cluster) (k : Kept w c) (na : Named w c) (i : ℕ) (m 
   unfolding arrivalFor arrivalSet cameEarlier shapeOf
   new-word e n u y h cf =
       subst (λ (b : Bool). In (cond b (arrivalSet S (m .pieces)) 0) u) (sym fixed)
-        (has-in (has-mask-below (cameEarlier S (m .pieces)) 64 u (arrived-small S u y (k .sizes .records i) h)
-          ∙ and-yes (arrivedAt S u) (conflict (shard S) (m .pieces) (recordAt S u .pieces)) (h .some) clashes))
+      (has-in (has-mask-below (cameEarlier S (m .pieces)) 64 u (arrived-small S u y (k .sizes .records i) h)
+      ∙ and-yes (arrivedAt S u) (conflict (shard S) (m .pieces) (recordAt S u .pieces)) (h .some) clashes))
     where
       fixed : fixes (recordAt S (m .t)) m ≡ true
       fixed = and-yes (eqb (m .code) PreAccept) (not (there (recordAt S (m .t) .arrival .some))) (eq-eqb (m .code) PreAccept e) (ap not n)
@@ -110,10 +108,10 @@ module _ (w : World) (c : Cluster) (k : Kept w c) (na : Named w c) (i : ℕ) (m 
       go t u x y ne cf (inr a) (inr b) = absurd (ne (a .1 ∙ sym (b .1)))
       go t u x y ne cf (inr a) (inl b) = inl (subst (λ x. In x u) (sym (a .2))
           (new-word (a .3) (a .4) u y (subst (λ s. Holds (recordOf c s u .arrival) y) (a .0) b)
-            (subst (λ t. conflict (shardOf i) (w .pieces t) (w .pieces u) ≡ true) (a .1) (subst (λ s. conflict (shardOf s) (w .pieces t) (w .pieces u) ≡ true) (a .0) cf))))
+          (subst (λ t. conflict (shardOf i) (w .pieces t) (w .pieces u) ≡ true) (a .1) (subst (λ s. conflict (shardOf s) (w .pieces t) (w .pieces u) ≡ true) (a .0) cf))))
       go t u x y ne cf (inl a) (inr b) = inr (subst (λ y. In y t) (sym (b .2))
           (new-word (b .3) (b .4) t x (subst (λ s. Holds (recordOf c s t .arrival) x) (b .0) a)
-            (subst (λ u. conflict (shardOf i) (w .pieces u) (w .pieces t) ≡ true) (b .1) (subst (λ s. conflict (shardOf s) (w .pieces u) (w .pieces t) ≡ true) (b .0) (conflict-sym (shardOf s) (w .pieces t) (w .pieces u) cf)))))
+          (subst (λ u. conflict (shardOf i) (w .pieces u) (w .pieces t) ≡ true) (b .1) (subst (λ s. conflict (shardOf s) (w .pieces u) (w .pieces t) ≡ true) (b .0) (conflict-turned (shardOf s) (w .pieces t) (w .pieces u) cf)))))
 
 pub order-kept : (w : World) {c c′ : Cluster} → Kept w c → Named w c → Change w c c′ → ArrivalOrder w c → ArrivalOrder w c′
 unfolding ran

@@ -1,9 +1,8 @@
 -- What a step does to servers, messages and the order of first runs: one of four things. Assumes nothing.
-use mathlib.Core.Path.{_≡_, refl, sym, _∙_, ap, subst}
-use mathlib.Core.Logic.{_⊎_, inl, inr, _≢_}
+use mathlib.Core.Path.{_≡_, refl, ap}
 use mathlib.Core.Bool.{Bool, true, false, cond}
-use mathlib.Core.Option.{Option, none, some}
-use mathlib.Core.List.{List, [], _∷_}
+use mathlib.Core.Option.{some}
+use mathlib.Core.List.{_∷_}
 use Prim.Native.Nat.{ℕ, _<_}
 use lib.Dec.{eqb}
 use Rattle.wire.specs.declared.Message.{Message}
@@ -20,12 +19,11 @@ use Rattle.drive.specs.declared.Moved.{Moved}
 use Rattle.drive.specs.Held.{touched}
 use Rattle.drive.specs.Form.{formed}
 use Rattle.drive.specs.Due.{dueMessage, serversOf, due}
-use Rattle.drive.specs.Hear.{hear}
-use Rattle.drive.specs.Host.{start, recover, again, moveOn}
+use Rattle.drive.specs.Host.{start, recover, again}
 use Rattle.drive.proofs.FormParts.{formed-parts, phase-below}
 use Rattle.safety.specs.Cluster.{World, Cluster, put, ballotOf, ran, asked, moved, began, vanished, Reaches, Next, takes, runs, runsOut, sends, hears, movesOn, starts, recovers, triesAgain, vanishes}
 use Rattle.safety.proofs.View.{recordOf, put-all}
-use Rattle.safety.proofs.Serving.{withServer, after, Outcome, refuses, takes as took, outcome}
+use Rattle.safety.proofs.Serving.{after, Outcome, refuses, takes as took, outcome}
 use Rattle.safety.proofs.SendsKeep.{Due, due-is}
 
 -- a run, or runs until nothing is left
@@ -43,7 +41,7 @@ withMessage c m = record { servers = c .servers; stations = c .stations; taken =
 
 pub data Change (w : World) (c : Cluster) : Cluster → Type 0 where
   serves : (i : ℕ) (m : Message) (o : Changed) → i < 12 → Reaches c m → Passed (c .servers i) m →
-    Did (c .servers i .id) (arrivalFor (c .servers i) m) (recordOf c i (m .t)) m o → Change w c (after c i (m .t) o)
+      Did (c .servers i .id) (arrivalFor (c .servers i) m) (recordOf c i (m .t)) m o → Change w c (after c i (m .t) o)
   hasRun : (i : ℕ) (r : Ran) → i < 12 → Runs (c .servers i) r → Change w c (ran c i r)
   sent : (j : ℕ) (d : Drive) (m : Message) → c .stations j ≡ some d → Due d m → Change w c (withMessage c m)
   quiet : {c′ : Cluster} → Quiet c c′ → Change w c c′

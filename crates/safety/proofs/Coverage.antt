@@ -1,40 +1,40 @@
 -- Of two committed numbers in conflict at a shard, one is in the other's word there. Assumes nothing.
-use mathlib.Core.Path.{_≡_, refl, sym, _∙_, ap, subst}
-use mathlib.Core.Logic.{_⊎_, inl, inr, _≢_}
-use mathlib.Core.Bool.{Bool, true, false, true≢false, false≢true}
+use mathlib.Core.Path.{_≡_, sym, subst}
+use mathlib.Core.Logic.{_⊎_, inl, inr}
+use mathlib.Core.Bool.{true, true≢false, false≢true}
 use mathlib.Core.List.{List·Memᴰ·not-nil}
 use Prim.Native.Nat.{ℕ}
 use Rattle.masks.specs.Bits.{In, has}
 use Rattle.rules.specs.declared.Pieces.{Pieces}
 use Rattle.rules.specs.declared.Set.{Set}
 use Rattle.rules.specs.Flags.{there}
-use Rattle.rules.specs.Cluster.{shardOf}
-use Rattle.rules.specs.Pieces.{anyPieces, piecesKept}
+use Rattle.rules.specs.Pieces.{piecesKept}
 use Rattle.rules.specs.Conflict.{conflict}
 use Rattle.rules.specs.Sets.{word}
 use Rattle.server.specs.declared.Record.{Record}
 use Rattle.safety.specs.Cluster.{World, Cluster, atFirst, Reached, fresh, then}
 use Rattle.safety.specs.Statements.{Committed, Coverage}
 use Rattle.safety.proofs.Quorum.{Maj, InShard, maj-meet, in-shard}
-use Rattle.safety.proofs.Slice.{Holds, Part, Sub}
+use Rattle.safety.proofs.Slice.{Part, Sub}
 use Rattle.safety.proofs.Agreement.{chosen-covers}
-use Rattle.safety.proofs.View.{CommitOf, recordOf, sliceOf, touchedOf}
-use Rattle.safety.proofs.Kept.{Kept}
+use Rattle.safety.proofs.View.{CommitOf, sliceOf, touchedOf}
 use Rattle.safety.proofs.Histories.{at-first, reached-kept}
 use Rattle.safety.proofs.Changes.{change-of}
-use Rattle.safety.proofs.Conflicts.{conflict-sym, conflict-touches}
+use Rattle.safety.proofs.Conflicts.{conflict-touches}
+use Rattle.rules.proofs.ConflictIs.{conflict-turned}
 use Rattle.safety.proofs.PiecesNamed.{NamedRecord, Named, named-kept}
-use Rattle.safety.proofs.ArrivalOrder.{Ordered, ArrivalOrder, order-kept}
+use Rattle.safety.proofs.ArrivalOrder.{ArrivalOrder, order-kept}
 
 module _ (w : World) where
   first-named : Named w (atFirst w)
   unfolding atFirst
   first-named = record {
-      records = λ s t. at-first w (λ v. NamedRecord w t v)
+    records = λ s t. at-first w (λ v. NamedRecord w t v)
         (record { any = λ h. absurd (false≢true h); arrived = λ h. absurd (false≢true h); committed = λ h. absurd (false≢true h); kept = λ h. absurd (false≢true h) })
         (record { any = λ h. absurd (false≢true h); arrived = λ h. absurd (false≢true h); committed = λ h. absurd (false≢true h); kept = λ h. absurd (false≢true h) })
         s t;
-      messages = λ m h. absurd (List·Memᴰ·not-nil h) }
+    messages = λ m h. absurd (List·Memᴰ·not-nil h);
+  }
 
   pub reached-named : {c : Cluster} → Reached w c → Named w c
   reached-named fresh = first-named
@@ -49,7 +49,7 @@ module _ (w : World) where
   reached-ordered (then r s) = order-kept w (reached-kept w r) (reached-named r) (change-of w s) (reached-ordered r)
 
   pub coverage : (c : Cluster) → Reached w c → Coverage w c
-  coverage c r s s′ t u k v v′ h h′ ne cf = go (maj-meet (parts s t k v h (touched s t u k v h cf)) (parts s′ u k v′ h′ (touched s′ u t k v′ h′ (conflict-sym k (w .pieces t) (w .pieces u) cf))))
+  coverage c r s s′ t u k v v′ h h′ ne cf = go (maj-meet (parts s t k v h (touched s t u k v h cf)) (parts s′ u k v′ h′ (touched s′ u t k v′ h′ (conflict-turned k (w .pieces t) (w .pieces u) cf))))
     where
       touched : (s t u k : ℕ) (v : Set) → Committed c s t v → conflict k (w .pieces t) (w .pieces u) ≡ true → has (touchedOf w t) k ≡ true
       touched s t u k v h cf =

@@ -1,45 +1,33 @@
 -- Each decision of a drive, made with two answers in each shard, rests on what it needs. Assumes nothing.
 use mathlib.Core.Path.{_≡_, refl, sym, _∙_, ap, subst}
-use mathlib.Core.Logic.{_⊎_, inl, inr, _≢_}
-use mathlib.Core.Bool.{Bool, true, false, not, cond, _&&_, _||_, true≢false, false≢true}
-use Prim.Native.Nat.{ℕ, zero, suc, _+_, _*_, _/_, _≤_, _<_}
+use mathlib.Core.Logic.{_⊎_, inl, inr}
+use mathlib.Core.Bool.{Bool, true, false, cond, _&&_}
+use Prim.Native.Nat.{ℕ, zero, suc, _≤_, _<_}
 use mathlib.Core.List.{List}
 use native.Mathlib.Omega.{arith}
-use native.Mathlib.Decide.{decLt, ℕ-discrete}
-use borrow.Author.Tests.{eqb-true, eqb-false, eq-eqb, ltb-true, ltb-false, leb-true, lt-ltb}
-use lib.Dec.{eqb, ltb, leb, lit<}
-use lib.ListN.{length, getD, length-replicate}
-use Rattle.masks.specs.Bits.{In, has}
-use Rattle.masks.specs.Folds.{allBelow, anyBelow}
-use Rattle.masks.proofs.Bools.{and-yes, and-yes-l, and-yes-r, and-no, not-yes, true-or-false, true-and-false, not-true-false}
-use Rattle.masks.proofs.FoldLaws.{all-at, any-of, has-mask-below}
-use Rattle.rules.specs.declared.Pieces.{Pieces}
+use native.Mathlib.Decide.{ℕ-discrete}
+use borrow.Author.Tests.{eqb-true, eqb-false, lt-ltb}
+use lib.Dec.{eqb, ltb}
+use lib.ListN.{length, getD}
+use Rattle.masks.specs.Bits.{has}
+use Rattle.masks.proofs.Bools.{and-yes, and-yes-l, and-yes-r, and-no, true-and-false, not-true-false}
 use Rattle.rules.specs.declared.Set.{Set}
 use Rattle.rules.specs.Flags.{there}
 use Rattle.rules.specs.Cluster.{serverOf, shardOf}
-use Rattle.rules.specs.Pieces.{pieceAt, pieceKept, entryKept, piecesKept, onShard, touches, shardsOf}
+use Rattle.rules.specs.Pieces.{piecesKept, shardsOf}
 use Rattle.rules.specs.Sets.{word}
 use Rattle.drive.specs.declared.Answer.{Answer}
 use Rattle.drive.specs.declared.Drive.{Drive}
-use Rattle.drive.specs.Held.{noAnswer, noAnswers, answerAt, counted, touched, addressed, toPhase, toPhase1}
+use Rattle.drive.specs.Held.{noAnswer, noAnswers, answerAt, counted, touched, toPhase, toPhase1}
 use Rattle.drive.specs.Decide.{allAnswered, twoInEach, hasWord, hasAccepted, equalWords, unions, highest, decide0, decide1, decide2, decide}
+use Rattle.drive.proofs.DecideKeepsForm.{nobody as nobody-counted, some-touched}
 use Rattle.safety.specs.Cluster.{World, Cluster}
-use Rattle.safety.proofs.Quorum.{Maj, All3, InShard, i0, i1, i2, maj-in, maj-map, maj-one, in-shard}
-use Rattle.safety.proofs.Slice.{Slice, Holds, Votes, Part, Sub, Covers, Unanimous, Prepared, PreparedBare, Free, Justified, free, highest as at-highest, Proposal, Chosen, quick, voted}
+use Rattle.safety.proofs.Quorum.{Maj, All3, InShard, i0, i1, i2, maj-in, maj-map, maj-one}
+use Rattle.safety.proofs.Slice.{Slice, Holds, Votes, Covers, Unanimous, Prepared, Free, free, highest as at-highest, Proposal, Chosen, quick, voted}
 use Rattle.safety.proofs.Agreement.{Lawful}
 use Rattle.safety.proofs.View.{sliceOf, touchedOf}
 use Rattle.safety.proofs.Answers.{two-maj, all-three, shard-below, High, nobody, somebody, high-is, in-unions, unions-fixed, unions-none, unions-fit, unions-each, equal-word, replica}
-use Rattle.safety.proofs.DriveIn.{Heard, Stage, DriveIn, nobody-counted}
-
--- a transaction touches some shard
-pub touches-some : (ps : Pieces) → piecesKept ps ≡ true → (k : ℕ) × (has (shardsOf ps) k ≡ true)
-unfolding piecesKept entryKept shardsOf touches onShard
-touches-some ps e =
-    let front = and-yes-l (leb 1 (ps .count) && leb (ps .count) 8) (allBelow (entryKept ps) (ps .count)) e in
-    let some : 1 ≤ ps .count = leb-true 1 (ps .count) (and-yes-l (leb 1 (ps .count)) (leb (ps .count) 8) front) in
-    let first = all-at (entryKept ps) (ps .count) 0 (and-yes-r (leb 1 (ps .count) && leb (ps .count) 8) (allBelow (entryKept ps) (ps .count)) e) (omega arith) in
-    let small = ltb-true (pieceAt ps 0 .shard) 4 (and-yes-l _ _ (and-yes-l _ _ (and-yes-l _ _ (and-yes-l _ _ first)))) in
-    (pieceAt ps 0 .shard, has-mask-below (touches ps) 4 (pieceAt ps 0 .shard) small ∙ any-of (onShard ps (pieceAt ps 0 .shard)) 8 0 (lit< tt) (and-yes _ _ (lt-ltb 0 (ps .count) (omega arith)) (eq-eqb (pieceAt ps 0 .shard) (pieceAt ps 0 .shard) refl)))
+use Rattle.safety.proofs.DriveIn.{Stage, DriveIn}
 
 module _ (w : World) (c : Cluster) (d : Drive) (di : DriveIn w c d) (lw : Lawful (touchedOf w (d .t)) (sliceOf c (d .t))) (kept : piecesKept (d .pieces) ≡ true) (two : twoInEach d ≡ true) where
   abbrev A : Slice
@@ -80,18 +68,19 @@ module _ (w : World) (c : Cluster) (d : Drive) (di : DriveIn w c d) (lw : Lawful
 
     unions-cover : Covers T A (unions d)
     unions-cover = record {
-        parts = λ k t. maj-in (λ s i q. record { own = answerAt d s .arrival .word; holds = true-word s q; part = record { all = in-unions d k s (shard-below (w .pieces (d .t)) k t) i (told s q) } }) (majority k t);
-        fixed = fixed;
-        outside = outside;
-        fits = λ k l. unions-fit d k l (λ r e. lw .fit .each _ _ (true-word (serverOf k r) (word-counted (serverOf k r) e))) }
+      parts = λ k t. maj-in (λ s i q. record { own = answerAt d s .arrival .word; holds = true-word s q; part = record { all = in-unions d k s (shard-below (w .pieces (d .t)) k t) i (told s q) } }) (majority k t);
+      fixed = fixed;
+      outside = outside;
+      fits = λ k l. unions-fit d k l (λ r e. lw .fit .each _ _ (true-word (serverOf k r) (word-counted (serverOf k r) e)));
+    }
       where
         fixed : (k : ℕ) → has T k ≡ true → (w : ℕ) → ((s w′ : ℕ) → InShard k s → Holds (A .arrival s) w′ → w′ ≡ w) → word (unions d) k ≡ w
         fixed k t u f =
             let m = maj-one (majority k t) in
             let r = replica d k (m .0) (m .1) in
             unions-fixed d k u (shard-below (w .pieces (d .t)) k t)
-              (λ r q e. f (serverOf k r) _ (replica-in k r q) (true-word (serverOf k r) (word-counted (serverOf k r) e)))
-              (r .0) (r .1) (subst (λ s. hasWord (answerAt d s) ≡ true) (r .2) (told (m .0) (m .2)))
+            (λ r q e. f (serverOf k r) _ (replica-in k r q) (true-word (serverOf k r) (word-counted (serverOf k r) e)))
+            (r .0) (r .1) (subst (λ s. hasWord (answerAt d s) ≡ true) (r .2) (told (m .0) (m .2)))
 
     unanimous : allAnswered d ≡ true → equalWords d ≡ true → Unanimous T A (unions d)
     unanimous a e = record { each = each; outside = outside }
@@ -109,22 +98,33 @@ module _ (w : World) (c : Cluster) (d : Drive) (di : DriveIn w c d) (lw : Lawful
 
   decided-in : (e : Drive) → e .t ≡ d .t → e .pieces ≡ d .pieces → e .answers ≡ noAnswers → Stage (touchedOf w (e .t)) (sliceOf c (e .t)) e → DriveIn w c e
   decided-in e et ep ea st = record {
-      named = ep ∙ di .named ∙ ap (w .pieces) (sym et);
-      places = ap length ea;
-      own = λ s q. absurd (true-and-false q (none s));
-      heard = λ s q. absurd (true-and-false q (none s));
-      stage = st }
+    named = ep ∙ di .named ∙ ap (w .pieces) (sym et);
+    places = ap length ea;
+    own = λ s q. absurd (true-and-false q (none s));
+    heard = λ s q. absurd (true-and-false q (none s));
+    stage = st;
+  }
     where
       none : (s : ℕ) → counted e s ≡ false
       none s = subst (λ (l : List Answer). there (getD l s noAnswer .counted) ≡ false) (sym ea) (nobody-counted s)
 
   to2 : (v : Set) → Proposal T A (d .ballot) v → ((u : Set) → A .Accept (d .ballot) u → u ≡ v) → DriveIn w c (toPhase 2 d v)
   to2 v p a = decided-in (toPhase 2 d v) refl refl refl (record {
-      early = λ l. absurd (omega arith); free = λ e. absurd (omega arith); proposed = λ e. p; alone = λ e. a; chosen = λ e. absurd (omega arith) })
+    early = λ l. absurd (omega arith);
+    free = λ e. absurd (omega arith);
+    proposed = λ e. p;
+    alone = λ e. a;
+    chosen = λ e. absurd (omega arith);
+  })
 
   to3 : (v : Set) → Chosen T A v → DriveIn w c (toPhase 3 d v)
   to3 v p = decided-in (toPhase 3 d v) refl refl refl (record {
-      early = λ l. absurd (omega arith); free = λ e. absurd (omega arith); proposed = λ e. absurd (omega arith); alone = λ e. absurd (omega arith); chosen = λ e. p })
+    early = λ l. absurd (omega arith);
+    free = λ e. absurd (omega arith);
+    proposed = λ e. absurd (omega arith);
+    alone = λ e. absurd (omega arith);
+    chosen = λ e. p;
+  })
 
   -- ---- phase 0
 
@@ -134,7 +134,12 @@ module _ (w : World) (c : Cluster) (d : Drive) (di : DriveIn w c d) (lw : Lawful
 
     to1 : Free T A (d .ballot) → DriveIn w c (toPhase1 d)
     to1 f = decided-in (toPhase1 d) refl refl refl (record {
-        early = λ l. unproposed; free = λ e p. f; proposed = λ e. absurd (omega arith); alone = λ e. absurd (omega arith); chosen = λ e. absurd (omega arith) })
+      early = λ l. unproposed;
+      free = λ e p. f;
+      proposed = λ e. absurd (omega arith);
+      alone = λ e. absurd (omega arith);
+      chosen = λ e. absurd (omega arith);
+    })
 
     bare : (s : ℕ) → counted d s ≡ true → hasAccepted (answerAt d s) ≡ false → there (answerAt d s .accepted .some) ≡ false
     bare s q e = go (and-no (counted d s) (there (answerAt d s .accepted .some)) e)
@@ -156,7 +161,7 @@ module _ (w : World) (c : Cluster) (d : Drive) (di : DriveIn w c d) (lw : Lawful
         held s q = lw .promises .each s (d .ballot) _ _ (di .heard s q .prepared ph) .arrived _ (record { some = and-yes-r (counted d s) (there (answerAt d s .arrival .some)) (told s q); is = refl })
 
     high-in : (best : ℕ) → best < 12 → hasAccepted (answerAt d best) ≡ true →
-      ((s : ℕ) → s < 12 → hasAccepted (answerAt d s) ≡ true → answerAt d s .accepted .ballot ≤ answerAt d best .accepted .ballot) → DriveIn w c (toPhase 2 d (answerAt d best .accepted .set))
+        ((s : ℕ) → s < 12 → hasAccepted (answerAt d s) ≡ true → answerAt d s .accepted .ballot ≤ answerAt d best .accepted .ballot) → DriveIn w c (toPhase 2 d (answerAt d best .accepted .set))
     high-in best l e f = to2 (answerAt d best .accepted .set) (record { just = λ p. at-highest (answerAt d best .accepted .ballot) lower asked rest; covers = lw .proposals .sound (answerAt d best .accepted .ballot) (answerAt d best .accepted .set) asked .covers }) (λ u a. absurd (unproposed u a))
       where
         q : counted d best ≡ true
@@ -211,13 +216,13 @@ module _ (w : World) (c : Cluster) (d : Drive) (di : DriveIn w c d) (lw : Lawful
 
   decide2-in : d .phase ≡ 2 → DriveIn w c (decide2 d)
   unfolding decide2
-  decide2-in ph = to3 (d .chosen .set) (voted (d .ballot) (t .0) (subst (λ n. has n (t .0) ≡ true) same-touched (t .1)) asked votes)
+  decide2-in ph = to3 (d .chosen .set) (voted (d .ballot) (t .0) (subst (λ n. has n (t .0) ≡ true) same-touched (t .2)) asked votes)
     where
-      t : (k : ℕ) × (has (shardsOf (d .pieces)) k ≡ true)
-      t = touches-some (d .pieces) kept
+      t : (k : ℕ) × (k < 4) × (has (shardsOf (d .pieces)) k ≡ true)
+      t = some-touched (d .pieces) kept
 
       votes : Maj (t .0) (λ s. A .AcceptOK s (d .ballot))
-      votes = maj-map (λ s q. di .heard s q .accepted ph) (two-maj d two (t .0) (t .1))
+      votes = maj-map (λ s q. di .heard s q .accepted ph) (two-maj d two (t .0) (t .2))
 
       asked : A .Accept (d .ballot) (d .chosen .set)
       asked = let v = lw .votes .each _ _ (maj-one votes .2) in subst (A .Accept (d .ballot)) (di .stage .alone ph (v .proposed) (v .asked)) (v .asked)

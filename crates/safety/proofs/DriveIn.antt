@@ -1,14 +1,14 @@
 -- What is known of a live drive: its pieces are its number's, its counted answers were sent to it, and what it has decided may be. It stays true while servers and other drives step.
 -- Assumes nothing.
-use mathlib.Core.Path.{_≡_, refl, sym, _∙_, ap, subst}
-use mathlib.Core.Bool.{Bool, true, false}
-use Prim.Native.Nat.{ℕ, zero, suc, _<_}
-use lib.ListN.{length, getD, replicate}
+use mathlib.Core.Path.{_≡_}
+use mathlib.Core.Bool.{true}
+use Prim.Native.Nat.{ℕ, _<_}
+use lib.ListN.{length}
 use Rattle.rules.specs.declared.Set.{Set}
 use Rattle.rules.specs.Flags.{there}
 use Rattle.drive.specs.declared.Answer.{Answer}
 use Rattle.drive.specs.declared.Drive.{Drive}
-use Rattle.drive.specs.Held.{noAnswer, noAnswers, answerAt, counted, touched, addressed}
+use Rattle.drive.specs.Held.{answerAt, counted, touched, addressed}
 use Rattle.safety.specs.Cluster.{World, Cluster}
 use Rattle.safety.proofs.Slice.{Slice, Free, Proposal, Chosen}
 use Rattle.safety.proofs.View.{sliceOf, touchedOf}
@@ -34,12 +34,3 @@ pub record DriveIn (w : World) (c : Cluster) (d : Drive) : Type 0 where
   pub own : (s : ℕ) → counted d s ≡ true → addressed (touched d) s ≡ true
   pub heard : (s : ℕ) → counted d s ≡ true → Heard (sliceOf c (d .t)) (d .phase) (d .ballot) s (answerAt d s)
   pub stage : Stage (touchedOf w (d .t)) (sliceOf c (d .t)) d
-
--- a new phase begins with no answers counted
-pub nobody-counted : (s : ℕ) → there (getD noAnswers s noAnswer .counted) ≡ false
-nobody-counted s = ap (λ (a : Answer). there (a .counted)) (go 12 s)
-  where
-    go : (n s : ℕ) → getD (replicate n noAnswer) s noAnswer ≡ noAnswer
-    go zero s = refl
-    go (suc n) zero = refl
-    go (suc n) (suc s) = go n s

@@ -1,47 +1,40 @@
 -- What a drive hears or is told keeps what is known of it. Assumes nothing.
-use mathlib.Core.Path.{_≡_, refl, sym, _∙_, ap, subst}
-use mathlib.Core.Logic.{_⊎_, inl, inr, _≢_}
+use mathlib.Core.Path.{_≡_, refl, sym, _∙_, subst}
 use mathlib.Core.Bool.{Bool, true, false, not, cond}
-use mathlib.Core.List.{List, List·Memᴰ}
-use Prim.Native.Nat.{ℕ, _≤_, _<_}
+use mathlib.Core.List.{List·Memᴰ}
+use Prim.Native.Nat.{ℕ, _<_}
 use native.Mathlib.Omega.{arith}
 use lib.Dec.{eqb}
-use lib.ListN.{length, getD, set, length-set}
+use lib.ListN.{set, length-set}
 use borrow.Author.Tests.{eqb-true, eqb-false}
 use Rattle.masks.proofs.Bools.{not-no, true-and-false}
-use Rattle.rules.specs.declared.Set.{Set}
-use Rattle.rules.specs.Choice.{_if_else_}
 use Rattle.rules.specs.Flags.{there}
-use Rattle.rules.specs.Maybe.{noWord, someWord, noVote}
 use Rattle.wire.specs.declared.Message.{Message}
-use Rattle.wire.specs.Codes.{PreAcceptOK, AcceptOK, PrepareOK, Done, commits}
+use Rattle.wire.specs.Codes.{Done, commits}
 use Rattle.server.proofs.RunLeaves.{set-either}
 use Rattle.drive.specs.declared.Answer.{Answer}
 use Rattle.drive.specs.declared.Drive.{Drive}
 use Rattle.drive.specs.declared.Moved.{Moved}
-use Rattle.drive.specs.Held.{noAnswer, answerAt, counted, touched, addressed, toPhase, withAnswer, withPromise}
+use Rattle.drive.specs.Held.{noAnswer, counted, touched, addressed, toPhase, withAnswer, withPromise}
 use Rattle.drive.specs.Decide.{twoInEach, decided, decide}
 use Rattle.drive.specs.Form.{formed}
-use Rattle.drive.specs.Hear.{says, answerOf, settle, count, hear, moved, refused}
+use Rattle.drive.specs.Hear.{answerOf, settle, count, hear, moved, refused}
 use Rattle.drive.specs.Host.{unless, moveOnRefusal, moveOn}
-use Rattle.drive.proofs.Passed.{Passed, Counts, Kind, prepared, preAccepted, accepted, Hears, isDone, isBehind, isOK, Replied, refuses, takes, replied}
+use Rattle.drive.proofs.Passed.{not-first, Passed, Counts, Kind, prepared, preAccepted, accepted, Hears, isDone, isBehind, isOK, Replied, refuses, takes, replied}
 use Rattle.drive.proofs.FormParts.{Formed, formed-parts, phase-below}
+use Rattle.drive.proofs.DecideKeepsForm.{nobody}
+use Rattle.drive.proofs.KeepsForm.{answerAs, answer-is}
 use Rattle.drive.proofs.Decided.{SameBallot, decision, decision-ballot, decided-two}
 use Rattle.safety.specs.Cluster.{World, Cluster}
-use Rattle.safety.proofs.Slice.{Slice, Chosen}
 use Rattle.safety.proofs.Agreement.{Lawful}
 use Rattle.safety.proofs.View.{CommitOf, sliceOf, touchedOf}
-use Rattle.safety.proofs.DriveIn.{Heard, Stage, DriveIn, nobody-counted}
+use Rattle.safety.proofs.DriveIn.{Heard, DriveIn}
 use Rattle.safety.proofs.Decisions.{decide-in}
 
 -- the drive e in the place of d
 pub record Follows (w : World) (c : Cluster) (d e : Drive) : Type 0 where
   pub same : SameBallot d e
   pub known : DriveIn w c e
-
--- what an OK of the code x says
-answerAs : Message → ℕ → Answer
-answerAs m x = says (m .arrival) (m .accepted) if eqb x PrepareOK else says (someWord (m .word)) noVote if eqb x PreAcceptOK else says noWord noVote
 
 module _ (w : World) (c : Cluster) (d : Drive) (di : DriveIn w c d) (lw : Lawful (touchedOf w (d .t)) (sliceOf c (d .t))) where
   stays : Follows w c d d
@@ -55,41 +48,59 @@ module _ (w : World) (c : Cluster) (d : Drive) (di : DriveIn w c d) (lw : Lawful
 
     done-in : m .code ≡ Done → m .t ≡ d .t → DriveIn w c (toPhase 3 d (m .set))
     done-in e n = record {
-        named = di .named;
-        places = refl;
-        own = λ s q. absurd (true-and-false q (nobody-counted s));
-        heard = λ s q. absurd (true-and-false q (nobody-counted s));
-        stage = record {
-          early = λ l. absurd (omega arith); free = λ z. absurd (omega arith); proposed = λ z. absurd (omega arith); alone = λ z. absurd (omega arith);
-          chosen = λ z. lw .committed .each (m .set) (CommitOf.sent m k (subst (λ n. commits n ≡ true) (sym e) refl) n refl) } }
+      named = di .named;
+      places = refl;
+      own = λ s q. absurd (true-and-false q (nobody s));
+      heard = λ s q. absurd (true-and-false q (nobody s));
+      stage = record {
+        early = λ l. absurd (omega arith);
+        free = λ z. absurd (omega arith);
+        proposed = λ z. absurd (omega arith);
+        alone = λ z. absurd (omega arith);
+        chosen = λ z. lw .committed .each (m .set) (CommitOf.sent m k (subst (λ n. commits n ≡ true) (sym e) refl) n refl);
+      };
+    }
 
     behind-in : (q : ℕ) → DriveIn w c (withPromise d q)
     behind-in q = record {
-        named = di .named; places = di .places; own = di .own; heard = di .heard;
-        stage = record { early = di .stage .early; free = di .stage .free; proposed = di .stage .proposed; alone = di .stage .alone; chosen = di .stage .chosen } }
+      named = di .named;
+      places = di .places;
+      own = di .own;
+      heard = di .heard;
+      stage = record { early = di .stage .early; free = di .stage .free; proposed = di .stage .proposed; alone = di .stage .alone; chosen = di .stage .chosen };
+    }
 
     -- ---- an OK
 
     sound-answer : Kind d m → Counts d m → Heard (sliceOf c (d .t)) (d .phase) (d .ballot) (m .server) (answerOf m)
-    unfolding answerOf answerAs
-    sound-answer (prepared e z) n = subst (λ (x : Answer). Heard (sliceOf c (d .t)) (d .phase) (d .ballot) (m .server) x) (sym (ap (answerAs m) e)) (record {
-        prepared = λ q. record { message = m; within = k; coded = e; numbered = n .number; says = record { server = refl; ballot = n .ballot; arrival = refl; accepted = refl } };
-        worded = λ q. absurd (omega arith); preAccepted = λ q. absurd (omega arith); accepted = λ q. absurd (omega arith) })
-    sound-answer (preAccepted e z) n = subst (λ (x : Answer). Heard (sliceOf c (d .t)) (d .phase) (d .ballot) (m .server) x) (sym (ap (answerAs m) e)) (record {
-        prepared = λ q. absurd (omega arith); worded = λ q. refl;
-        preAccepted = λ q. record { message = m; within = k; coded = e; numbered = n .number; says = (refl, refl) };
-        accepted = λ q. absurd (omega arith) })
+    unfolding answerAs
+    sound-answer (prepared e z) n = subst (λ (x : Answer). Heard (sliceOf c (d .t)) (d .phase) (d .ballot) (m .server) x) (sym (answer-is m _ e)) (record {
+      prepared = λ q. record { message = m; within = k; coded = e; numbered = n .number; says = record { server = refl; ballot = n .ballot; arrival = refl; accepted = refl } };
+      worded = λ q. absurd (omega arith);
+      preAccepted = λ q. absurd (omega arith);
+      accepted = λ q. absurd (omega arith);
+    })
+    sound-answer (preAccepted e z) n = subst (λ (x : Answer). Heard (sliceOf c (d .t)) (d .phase) (d .ballot) (m .server) x) (sym (answer-is m _ e)) (record {
+      prepared = λ q. absurd (omega arith);
+      worded = λ q. refl;
+      preAccepted = λ q. record { message = m; within = k; coded = e; numbered = n .number; says = (refl, refl) };
+      accepted = λ q. absurd (omega arith);
+    })
     sound-answer (accepted e z) n = record {
-        prepared = λ q. absurd (omega arith); worded = λ q. absurd (omega arith); preAccepted = λ q. absurd (omega arith);
-        accepted = λ q. record { message = m; within = k; coded = e; numbered = n .number; says = (refl, n .ballot) } }
+      prepared = λ q. absurd (omega arith);
+      worded = λ q. absurd (omega arith);
+      preAccepted = λ q. absurd (omega arith);
+      accepted = λ q. record { message = m; within = k; coded = e; numbered = n .number; says = (refl, n .ballot) };
+    }
 
     answer-in : Kind d m → Counts d m → DriveIn w c (withAnswer d (m .server) (answerOf m))
     answer-in kd n = record {
-        named = di .named;
-        places = length-set (d .answers) (m .server) (answerOf m) ∙ di .places;
-        own = λ u. set-either (λ (x : Answer). there (x .counted) ≡ true → addressed (touched d) u ≡ true) (d .answers) (m .server) u (answerOf m) noAnswer (di .own u) (λ e z. subst (λ u. addressed (touched d) u ≡ true) (sym e) (n .server));
-        heard = λ u. set-either (λ (x : Answer). there (x .counted) ≡ true → Heard (sliceOf c (d .t)) (d .phase) (d .ballot) u x) (d .answers) (m .server) u (answerOf m) noAnswer (di .heard u) (λ e z. subst (λ u. Heard (sliceOf c (d .t)) (d .phase) (d .ballot) u (answerOf m)) (sym e) (sound-answer kd n));
-        stage = record { early = di .stage .early; free = di .stage .free; proposed = di .stage .proposed; alone = di .stage .alone; chosen = di .stage .chosen } }
+      named = di .named;
+      places = length-set (d .answers) (m .server) (answerOf m) ∙ di .places;
+      own = λ u. set-either (λ (x : Answer). there (x .counted) ≡ true → addressed (touched d) u ≡ true) (d .answers) (m .server) u (answerOf m) noAnswer (di .own u) (λ e z. subst (λ u. addressed (touched d) u ≡ true) (sym e) (n .server));
+      heard = λ u. set-either (λ (x : Answer). there (x .counted) ≡ true → Heard (sliceOf c (d .t)) (d .phase) (d .ballot) u x) (d .answers) (m .server) u (answerOf m) noAnswer (di .heard u) (λ e z. subst (λ u. Heard (sliceOf c (d .t)) (d .phase) (d .ballot) u (answerOf m)) (sym e) (sound-answer kd n));
+      stage = record { early = di .stage .early; free = di .stage .free; proposed = di .stage .proposed; alone = di .stage .alone; chosen = di .stage .chosen };
+    }
 
     phase-early : Kind d m → d .phase < 3
     phase-early (prepared e z) = omega arith
@@ -124,17 +135,14 @@ module _ (w : World) (c : Cluster) (d : Drive) (di : DriveIn w c d) (lw : Lawful
   move-in : moveOnRefusal d ≡ 0 → Follows w c d (decide d)
   unfolding moveOnRefusal
   move-in e =
-      let p13 = first-no (not (formed d)) 13 _ (λ z. omega arith) e in
-      let p8 = first-no (eqb (d .phase) 3) 8 _ (λ z. omega arith) (p13 .1) in
-      let p7 = first-no (not (twoInEach d)) 7 0 (λ z. omega arith) (p8 .1) in
+      let p13 = not-first (not (formed d)) 13 _ (λ z. omega arith) e in
+      let p8 = not-first (eqb (d .phase) 3) 8 _ (λ z. omega arith) (p13 .1) in
+      let p7 = not-first (not (twoInEach d)) 7 0 (λ z. omega arith) (p8 .1) in
       let f = formed-parts d (not-no (formed d) (p13 .0)) in
       record {
         same = decision-ballot (decision d);
-        known = decide-in w c d di lw (f .pieces) (not-no (twoInEach d) (p7 .0)) (let l = phase-below d f in let n = eqb-false (d .phase) 3 (p8 .0) in omega arith) }
-    where
-      first-no : (b : Bool) (k r : ℕ) → k ≢ 0 → cond b k r ≡ 0 → (b ≡ false) × (r ≡ 0)
-      first-no true k r h e = absurd (h e)
-      first-no false k r h e = (refl, e)
+        known = decide-in w c d di lw (f .pieces) (not-no (twoInEach d) (p7 .0)) (let l = phase-below d f in let n = eqb-false (d .phase) 3 (p8 .0) in omega arith);
+      }
 
   pub moveOn-follows : Follows w c d (moveOn d .drive)
   unfolding moveOn unless

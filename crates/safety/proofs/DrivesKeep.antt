@@ -1,18 +1,16 @@
 -- The drives' steps keep what is kept: a reply heard, a move, a ballot taken, a drive gone. Assumes nothing.
 use mathlib.Core.Path.{_≡_, refl, sym, _∙_, ap, subst}
-use mathlib.Core.Logic.{_⊎_, inl, inr, _≢_}
+use mathlib.Core.Logic.{inl, _≢_}
 use mathlib.Core.Bool.{Bool, true, false, cond}
 use mathlib.Core.Option.{Option, none, some, Option·some-injective, Option·none-ne-some}
-use mathlib.Core.List.{List, [], _∷_, List·Memᴰ, List·Memᴰ·head, List·Memᴰ·tail, List·Memᴰ·cases-cons}
-use Prim.Native.Nat.{ℕ, _≤_, _<_}
+use mathlib.Core.List.{_∷_, List·Memᴰ, List·Memᴰ·head, List·Memᴰ·tail}
+use Prim.Native.Nat.{ℕ, _<_}
 use native.Mathlib.Omega.{arith}
 use native.Mathlib.Decide.{ℕ-discrete}
 use borrow.Author.Tests.{eqb-true}
 use lib.Dec.{eqb}
 use Rattle.masks.proofs.Bools.{true-and-false}
-use Rattle.rules.specs.declared.Set.{Set}
 use Rattle.rules.specs.declared.Pieces.{Pieces}
-use Rattle.rules.specs.Ballots.{nextAbove}
 use Rattle.wire.specs.declared.Message.{Message}
 use lib.ListN.{length}
 use Rattle.server.specs.declared.Server.{Server}
@@ -21,18 +19,17 @@ use Rattle.server.proofs.RunLeaves.{SameHeld, leaves-refl}
 use Rattle.drive.specs.declared.Drive.{Drive}
 use Rattle.drive.specs.declared.Moved.{Moved}
 use Rattle.drive.specs.Held.{began as beginning}
-use Rattle.drive.specs.Hear.{hear, moved as movedTo, refused}
-use Rattle.drive.specs.Host.{unless, startRefusal, start, recoverRefusal, recover, above, againRefusal, again, moveOn}
-use Rattle.drive.proofs.Decided.{SameBallot}
-use Rattle.safety.specs.Cluster.{World, Cluster, Taken, put, moved, began, vanished, ballotOf, Unused}
-use Rattle.safety.proofs.Slice.{Slice}
+use Rattle.drive.specs.Hear.{moved as movedTo, refused}
+use Rattle.drive.specs.Host.{unless}
+use Rattle.safety.specs.Cluster.{World, Cluster, put, moved, began, vanished, ballotOf}
 use Rattle.safety.proofs.Summary.{Step}
 use Rattle.safety.proofs.Agreement.{lawful-kept}
 use Rattle.safety.proofs.View.{Said, sliceOf, touchedOf, put-same, put-other}
-use Rattle.safety.proofs.DriveIn.{DriveIn, nobody-counted}
-use Rattle.safety.proofs.Kept.{Sizes, Ballots, Kept, Grows, drive-stays}
+use Rattle.safety.proofs.DriveIn.{DriveIn}
+use Rattle.drive.proofs.DecideKeepsForm.{nobody}
+use Rattle.safety.proofs.Kept.{Sizes, Kept, drive-stays}
 use Rattle.safety.proofs.ServersKeep.{still-step}
-use Rattle.safety.proofs.DriveMoves.{Follows, hear-follows, moveOn-follows}
+use Rattle.safety.proofs.DriveMoves.{Follows}
 
 -- what a station holds after one was put
 pub data AtStation (f : ℕ → Option Drive) (j : ℕ) (o : Option Drive) (i : ℕ) (e : Drive) : Type 0 where
@@ -62,8 +59,9 @@ module _ (w : World) (c c′ : Cluster) (es : c′ .servers ≡ c .servers) (em 
 
   sizes-to : Sizes c → Sizes c′
   sizes-to sz = record {
-      ids = λ i. subst (λ (f : ℕ → Server). f i .id ≡ i) (sym es) (sz .ids i);
-      records = λ i. subst (λ (f : ℕ → Server). length (f i .records) ≡ 64) (sym es) (sz .records i) }
+    ids = λ i. subst (λ (f : ℕ → Server). f i .id ≡ i) (sym es) (sz .ids i);
+    records = λ i. subst (λ (f : ℕ → Server). length (f i .records) ≡ 64) (sym es) (sz .records i);
+  }
 
 -- ---- a drive becomes another of its ballot
 
@@ -88,13 +86,15 @@ module _ (w : World) (c : Cluster) (j : ℕ) (d : Drive) (r : Moved) (at : c .st
   pub moved-kept : Kept w (moved c j r)
   unfolding moved
   moved-kept = record {
-      sizes = sizes-to w c (moved c j r) refl refl (k .sizes);
-      ballots = record {
-        took = λ i e h. moved-took i e (at-station (c .stations) j _ i e h);
-        alone = λ i i′ e e′ h h′. moved-alone i i′ e e′ (at-station (c .stations) j _ i e h) (at-station (c .stations) j _ i′ e′ h′);
-        proposed = λ t b v a. k .ballots .proposed t b v (said-from w c (moved c j r) refl refl a) };
-      drives = λ i e h. drives i e (at-station (c .stations) j _ i e h);
-      lawful = λ t. lawful-kept (step-to w c (moved c j r) refl refl t) (k .lawful t) }
+    sizes = sizes-to w c (moved c j r) refl refl (k .sizes);
+    ballots = record {
+      took = λ i e h. moved-took i e (at-station (c .stations) j _ i e h);
+      alone = λ i i′ e e′ h h′. moved-alone i i′ e e′ (at-station (c .stations) j _ i e h) (at-station (c .stations) j _ i′ e′ h′);
+      proposed = λ t b v a. k .ballots .proposed t b v (said-from w c (moved c j r) refl refl a);
+    };
+    drives = λ i e h. drives i e (at-station (c .stations) j _ i e h);
+    lawful = λ t. lawful-kept (step-to w c (moved c j r) refl refl t) (k .lawful t);
+  }
     where
       drives : (i : ℕ) (e : Drive) → AtStation (c .stations) j (some (r .drive)) i e → DriveIn w (moved c j r) e
       drives i e (here z q) = subst (DriveIn w (moved c j r)) (Option·some-injective _ _ q) (drive-to w c (moved c j r) refl refl (r .drive) (fo .known))
@@ -113,13 +113,15 @@ module _ (w : World) (c : Cluster) (j : ℕ) (d : Drive) (k : Kept w c) (bg : Be
 
   pub begun-kept : Kept w C′
   begun-kept = record {
-      sizes = sizes-to w c C′ refl refl (k .sizes);
-      ballots = record {
-        took = λ i e h. took i e (at-station (c .stations) j _ i e h);
-        alone = λ i i′ e e′ h h′. alone i i′ e e′ (at-station (c .stations) j _ i e h) (at-station (c .stations) j _ i′ e′ h′);
-        proposed = λ t b v a. List·Memᴰ·tail (k .ballots .proposed t b v (said-from w c C′ refl refl a)) };
-      drives = λ i e h. drives i e (at-station (c .stations) j _ i e h);
-      lawful = λ t. lawful-kept (step-to w c C′ refl refl t) (k .lawful t) }
+    sizes = sizes-to w c C′ refl refl (k .sizes);
+    ballots = record {
+      took = λ i e h. took i e (at-station (c .stations) j _ i e h);
+      alone = λ i i′ e e′ h h′. alone i i′ e e′ (at-station (c .stations) j _ i e h) (at-station (c .stations) j _ i′ e′ h′);
+      proposed = λ t b v a. List·Memᴰ·tail (k .ballots .proposed t b v (said-from w c C′ refl refl a));
+    };
+    drives = λ i e h. drives i e (at-station (c .stations) j _ i e h);
+    lawful = λ t. lawful-kept (step-to w c C′ refl refl t) (k .lawful t);
+  }
     where
       took : (i : ℕ) (e : Drive) → AtStation (c .stations) j (some d) i e → List·Memᴰ (ballotOf e) (ballotOf d ∷ c .taken)
       took i e (here z q) = List·Memᴰ·head (ap ballotOf (sym (Option·some-injective _ _ q)))
@@ -141,18 +143,21 @@ module _ (w : World) (c : Cluster) (j : ℕ) (d : Drive) (k : Kept w c) (bg : Be
 -- a drive that begins at a ballot not taken, with its number's pieces: at ballot 0 in phase 1, or in phase 0
 pub begins : (w : World) (c : Cluster) (t q b p seen : ℕ) (ps : Pieces) → Kept w c → ps ≡ w .pieces t → (List·Memᴰ (record { number = t; ballot = b }) (c .taken) → ⊥) → p < 2 → (p ≡ 1 → b ≡ 0) → Begins w c (beginning t q b p ps seen)
 begins w c t q b p seen ps k e un l z = record {
-    unused = un;
-    known = record {
-      named = e;
-      places = refl;
-      own = λ s h. absurd (true-and-false h (nobody-counted s));
-      heard = λ s h. absurd (true-and-false h (nobody-counted s));
-      stage = record {
-        early = λ l v a. un (k .ballots .proposed t b v a);
-        free = λ h n. absurd (omega (arith, z h));
-        proposed = λ h. absurd (omega arith);
-        alone = λ h. absurd (omega arith);
-        chosen = λ h. absurd (omega arith) } } }
+  unused = un;
+  known = record {
+    named = e;
+    places = refl;
+    own = λ s h. absurd (true-and-false h (nobody s));
+    heard = λ s h. absurd (true-and-false h (nobody s));
+    stage = record {
+      early = λ l v a. un (k .ballots .proposed t b v a);
+      free = λ h n. absurd (omega (arith, z h));
+      proposed = λ h. absurd (omega arith);
+      alone = λ h. absurd (omega arith);
+      chosen = λ h. absurd (omega arith);
+    };
+  };
+}
 
 -- a host's call that takes a ballot
 pub unless-kept : (w : World) (c : Cluster) (j n : ℕ) (lent z : Drive) → Kept w c → (n ≡ 0 → Begins w c z) → Kept w (began c j (unless lent n z))
@@ -166,13 +171,15 @@ unless-kept w c j n lent z k f = go (eqb n 0) refl
 pub vanished-kept : (w : World) (c : Cluster) (j : ℕ) → Kept w c → Kept w (vanished c j)
 unfolding vanished
 vanished-kept w c j k = record {
-    sizes = sizes-to w c (vanished c j) refl refl (k .sizes);
-    ballots = record {
-      took = λ i e h. k .ballots .took i e (left i e (at-station (c .stations) j none i e h));
-      alone = λ i i′ e e′ h h′. k .ballots .alone i i′ e e′ (left i e (at-station (c .stations) j none i e h)) (left i′ e′ (at-station (c .stations) j none i′ e′ h′));
-      proposed = λ t b v a. k .ballots .proposed t b v (said-from w c (vanished c j) refl refl a) };
-    drives = λ i e h. drive-to w c (vanished c j) refl refl e (k .drives i e (left i e (at-station (c .stations) j none i e h)));
-    lawful = λ t. lawful-kept (step-to w c (vanished c j) refl refl t) (k .lawful t) }
+  sizes = sizes-to w c (vanished c j) refl refl (k .sizes);
+  ballots = record {
+    took = λ i e h. k .ballots .took i e (left i e (at-station (c .stations) j none i e h));
+    alone = λ i i′ e e′ h h′. k .ballots .alone i i′ e e′ (left i e (at-station (c .stations) j none i e h)) (left i′ e′ (at-station (c .stations) j none i′ e′ h′));
+    proposed = λ t b v a. k .ballots .proposed t b v (said-from w c (vanished c j) refl refl a);
+  };
+  drives = λ i e h. drive-to w c (vanished c j) refl refl e (k .drives i e (left i e (at-station (c .stations) j none i e h)));
+  lawful = λ t. lawful-kept (step-to w c (vanished c j) refl refl t) (k .lawful t);
+}
   where
     left : (i : ℕ) (e : Drive) → AtStation (c .stations) j none i e → c .stations i ≡ some e
     left i e (here z q) = absurd (Option·none-ne-some _ q)

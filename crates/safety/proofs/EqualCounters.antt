@@ -5,15 +5,14 @@ use mathlib.Core.Bool.{Bool, true, false, cond, not, _&&_}
 use mathlib.Core.List.{List, [], _∷_, List·Memᴰ}
 use Prim.Native.Nat.{ℕ, _≤_, _<_}
 use native.Mathlib.Omega.{arith}
-use native.Mathlib.Decide.{decLt, ℕ-discrete}
+use native.Mathlib.Decide.{decLt}
 use borrow.Author.Tests.{eqb-true, eqb-false, eq-eqb}
 use lib.Dec.{eqb}
-use lib.ListN.{length, getD, List·getD-eq-default}
+use lib.ListN.{length, List·getD-eq-default}
 use lib.Seq.{ext-getD}
 use Rattle.masks.specs.Folds.{anyBelow}
-use Rattle.masks.proofs.Bools.{and-yes, and-yes-l, and-yes-r, not-yes, not-no, true-and-false, true-or-false}
-use Rattle.masks.proofs.FoldLaws.{any-at, any-of, any-no}
-use Rattle.rules.specs.declared.Pieces.{Pieces}
+use Rattle.masks.proofs.Bools.{and-yes, and-yes-l, and-yes-r, not-yes, true-and-false, true-or-false}
+use Rattle.masks.proofs.FoldLaws.{any-at, any-no}
 use Rattle.rules.specs.Pieces.{pieceAt, read, onShard, touches}
 use Rattle.rules.specs.Conflict.{conflict}
 use Rattle.rules.proofs.ConflictIs.{on-is, shares-conflict, conflict-turned}
@@ -23,14 +22,14 @@ use Rattle.counters.specs.Effects.{zeroed, counterAt, execute}
 use Rattle.counters.proofs.PerKey.{keyEffect, counters-length, key-step, unwritten, same-results}
 use Rattle.rules.specs.Cluster.{shardOf}
 use Rattle.server.specs.Held.{recordAt}
-use Rattle.safety.specs.Orders.{entries, Earlier, completed}
+use Rattle.safety.specs.Orders.{Earlier, completed}
 use Rattle.safety.specs.Cluster.{World, Cluster, Reached}
-use Rattle.safety.specs.Statements.{logOf, OneOrder, SameRan, SameShown, EqualCounters}
+use Rattle.safety.specs.Statements.{logOf, OneOrder, EqualCounters}
 use Rattle.safety.proofs.Lists.{earlier-fst, earlier-snd, one-earlier}
 use Rattle.safety.proofs.Conflicts.{on-touches}
 use Rattle.safety.proofs.LogOrders.{reached-logs}
 use Rattle.safety.proofs.OneOrder.{one-order}
-use Rattle.safety.proofs.Sifting.{place, earlier-place, Rises, Within, same-list, sift, sift-from, sift-in, sift-earlier, until, until-mem, until-earlier, until-from, until-in}
+use Rattle.safety.proofs.Sifting.{place, earlier-place, Rises, same-list, sift, sift-from, sift-in, sift-earlier, until, until-earlier, until-from, until-in}
 use Rattle.safety.proofs.Replays.{replay, Replayed, reached-replayed}
 
 -- ---- the counter of one key
@@ -103,7 +102,8 @@ module _ (w : World) (k x : ℕ) where
         second = on-is (w .pieces u) k (b .i) (b .small) (b .on);
         key = subst (λ n. n < 16) (sym (a .0 .key)) l;
         shared = a .0 .key ∙ sym (b .key);
-        writes = λ z q. a .1 z })
+        writes = λ z q. a .1 z;
+      })
 
   writer-touches : (t : ℕ) → writer t ≡ true → touches (w .pieces t) k ≡ true
   writer-touches t e = let a = writer-on t e .0 in on-touches (w .pieces t) k (a .i) (a .small) (a .on)
@@ -125,18 +125,18 @@ module _ (w : World) (k : ℕ) (f : ℕ → ℕ) where
         p a b (sift-earlier (writer w k x) l a b h) (clash w k x small a b wa (writer-on w k x b wb .0))
 
     same-value : (l m : List ℕ) → Placed l → Placed m →
-      ((a : ℕ) → writer w k x a ≡ true → List·Memᴰ a l → List·Memᴰ a m) → ((a : ℕ) → writer w k x a ≡ true → List·Memᴰ a m → List·Memᴰ a l) →
-      (v : Counter) → value w k x v l ≡ value w k x v m
+        ((a : ℕ) → writer w k x a ≡ true → List·Memᴰ a l → List·Memᴰ a m) → ((a : ℕ) → writer w k x a ≡ true → List·Memᴰ a m → List·Memᴰ a l) →
+        (v : Counter) → value w k x v l ≡ value w k x v m
     same-value l m pl pm lm ml v =
         value-sift w k x l v
         ∙ ap (value w k x v) (same-list f (sift (writer w k x) l) (sift (writer w k x) m) (writers-rise l pl) (writers-rise m pm)
-          (λ a h. let r = sift-from (writer w k x) l a h in sift-in (writer w k x) m a (lm a (r .1) (r .0)) (r .1))
-          (λ a h. let r = sift-from (writer w k x) m a h in sift-in (writer w k x) l a (ml a (r .1) (r .0)) (r .1)))
+        (λ a h. let r = sift-from (writer w k x) l a h in sift-in (writer w k x) m a (lm a (r .1) (r .0)) (r .1))
+        (λ a h. let r = sift-from (writer w k x) m a h in sift-in (writer w k x) l a (ml a (r .1) (r .0)) (r .1)))
         ∙ sym (value-sift w k x m v)
 
     -- a writer that stands before t in the one stands before it in the other
     before-too : (l m : List ℕ) → Placed l → Placed m → SameWith l m → (t : ℕ) → OnKey w k x t → List·Memᴰ t l → List·Memᴰ t m → (Earlier t t l → ⊥) → (Earlier t t m → ⊥) →
-      (a : ℕ) → writer w k x a ≡ true → List·Memᴰ a (until t l) → List·Memᴰ a (until t m)
+        (a : ℕ) → writer w k x a ≡ true → List·Memᴰ a (until t l) → List·Memᴰ a (until t m)
     before-too l m pl pm lm t o tl tm ol om a e h = until-in t m a om (go (one-earlier m a t ne (lm a (writer-touches w k x a e) (earlier-fst ea)) tm))
       where
         ea : Earlier a t l
@@ -224,8 +224,8 @@ equal-counters w c r k s s′ l l′ e e′ sr = record { counters = counters; r
             go (yes h) =
                 key-of x h (until t (logOf c s))
                 ∙ same-value w k (place W) x h (until t (logOf c s)) (until t (logOf c s′)) (until-placed s l) (until-placed s′ l′)
-                  (before-too w k (place W) x h (logOf c s) (logOf c s′) (placed s l) (placed s′ l′) (sr .here) t on m m′ (once s t l) (once s′ t l′))
-                  (before-too w k (place W) x h (logOf c s′) (logOf c s) (placed s′ l′) (placed s l) (sr .there) t on m′ m (once s′ t l′) (once s t l))
-                  (counterAt init x)
+                (before-too w k (place W) x h (logOf c s) (logOf c s′) (placed s l) (placed s′ l′) (sr .here) t on m m′ (once s t l) (once s′ t l′))
+                (before-too w k (place W) x h (logOf c s′) (logOf c s) (placed s′ l′) (placed s l) (sr .there) t on m′ m (once s′ t l′) (once s t l))
+                (counterAt init x)
                 ∙ sym (key-of x h (until t (logOf c s′)))
             go (no h) = past (until t (logOf c s)) (omega arith) ∙ sym (past (until t (logOf c s′)) (omega arith))

@@ -1,19 +1,19 @@
 -- Every cluster that is reached keeps what is kept; and so committed sets agree. Assumes nothing.
-use mathlib.Core.Path.{_≡_, refl, sym, _∙_, ap, subst}
-use mathlib.Core.Logic.{_⊎_, inl, inr, _≢_}
-use mathlib.Core.Bool.{Bool, true, false, not, true≢false, cond, _||_}
-use mathlib.Core.Option.{Option, none, some, Option·none-ne-some}
-use mathlib.Core.List.{List, [], _∷_, List·Memᴰ, List·Memᴰ·not-nil}
-use Prim.Native.Nat.{ℕ, zero, suc, _≤_, _<_}
+use mathlib.Core.Path.{_≡_, refl, sym, subst}
+use mathlib.Core.Logic.{_⊎_, inl, inr}
+use mathlib.Core.Bool.{true, true≢false}
+use mathlib.Core.Option.{some, Option·none-ne-some}
+use mathlib.Core.List.{List·Memᴰ, List·Memᴰ·not-nil}
+use Prim.Native.Nat.{ℕ, zero, suc}
 use native.Mathlib.Omega.{arith}
-use lib.Dec.{eqb, lit<}
-use lib.ListN.{length, getD, replicate, length-replicate}
+use lib.Dec.{lit<}
+use lib.ListN.{getD, replicate}
 use Rattle.rules.specs.declared.Set.{Set}
 use Rattle.rules.specs.Flags.{there}
 use Rattle.rules.specs.Ballots.{nextAbove}
 use Rattle.wire.specs.declared.Message.{Message}
 use Rattle.server.specs.declared.Record.{Record}
-use Rattle.server.specs.Held.{noRecord, freshRecord, recordAt, committedAt}
+use Rattle.server.specs.Held.{noRecord, freshRecord, recordAt}
 use Rattle.server.specs.Host.{freshServer}
 use Rattle.server.specs.Run.{run, runAll}
 use Rattle.server.proofs.RunLeaves.{run-leaves, runAll-leaves}
@@ -21,11 +21,10 @@ use Rattle.drive.specs.declared.Drive.{Drive}
 use Rattle.drive.specs.Hear.{hear}
 use Rattle.drive.specs.Host.{startRefusal, start, recoverRefusal, recover, above, againRefusal, again, unless, moveOn}
 use Rattle.drive.specs.Held.{began}
-use Rattle.safety.specs.Cluster.{World, Cluster, Taken, ballotOf, firstServer, atFirst, Next, takes, runs, runsOut, sends, hears, movesOn, starts, recovers, triesAgain, vanishes, Reached, fresh, then, Unused}
-use Rattle.safety.specs.Statements.{Committed, Agreement}
-use Rattle.safety.proofs.Slice.{Slice, Holds, Votes}
-use Rattle.safety.proofs.Agreement.{Lawful, chosen-agree}
-use Rattle.safety.proofs.View.{Said, CommitOf, sent, held, recordOf, sliceOf, touchedOf}
+use Rattle.safety.specs.Cluster.{World, Cluster, ballotOf, firstServer, atFirst, Next, takes, runs, runsOut, sends, hears, movesOn, starts, recovers, triesAgain, vanishes, Reached, fresh, then, Unused}
+use Rattle.safety.specs.Statements.{Agreement}
+use Rattle.safety.proofs.Agreement.{chosen-agree}
+use Rattle.safety.proofs.View.{Said, CommitOf, sent, held, recordOf}
 use Rattle.safety.proofs.Kept.{Kept}
 use Rattle.safety.proofs.ServersKeep.{answered-kept, ran-kept}
 use Rattle.safety.proofs.DriveMoves.{hear-follows, moveOn-follows}
@@ -78,20 +77,23 @@ module _ (w : World) where
 
   first-kept : Kept w (atFirst w)
   first-kept = record {
-      sizes = record { ids = λ i. unfold atFirst firstServer freshServer in refl; records = λ i. unfold atFirst firstServer freshServer in refl };
-      ballots = record {
-        took = λ j d e. absurd (no-drive j d e);
-        alone = λ i j d e p. absurd (no-drive i d p);
-        proposed = λ t b v a. absurd (nothing-sent a) };
-      drives = λ j d e. absurd (no-drive j d e);
-      lawful = λ t. record {
-        accepted = record { each = λ s b v h. absurd (nothing-accepted s t (h .some)) };
-        votes = record { each = λ s b h. absurd (nothing-sent h) };
-        promises = record { each = λ s b a o h. absurd (nothing-sent h) };
-        words = record { each = λ s x h. absurd (nothing-sent h) };
-        fit = record { each = λ s x h. absurd (nothing-arrived s t (h .some)) };
-        proposals = record { one = λ b v v′ h. absurd (nothing-sent h); sound = λ b v h. absurd (nothing-sent h) };
-        committed = record { each = λ v h. absurd (no-commit t v h) } } }
+    sizes = record { ids = λ i. unfold atFirst firstServer freshServer in refl; records = λ i. unfold atFirst firstServer freshServer in refl };
+    ballots = record {
+      took = λ j d e. absurd (no-drive j d e);
+      alone = λ i j d e p. absurd (no-drive i d p);
+      proposed = λ t b v a. absurd (nothing-sent a);
+    };
+    drives = λ j d e. absurd (no-drive j d e);
+    lawful = λ t. record {
+      accepted = record { each = λ s b v h. absurd (nothing-accepted s t (h .some)) };
+      votes = record { each = λ s b h. absurd (nothing-sent h) };
+      promises = record { each = λ s b a o h. absurd (nothing-sent h) };
+      words = record { each = λ s x h. absurd (nothing-sent h) };
+      fit = record { each = λ s x h. absurd (nothing-arrived s t (h .some)) };
+      proposals = record { one = λ b v v′ h. absurd (nothing-sent h); sound = λ b v h. absurd (nothing-sent h) };
+      committed = record { each = λ v h. absurd (no-commit t v h) };
+    };
+  }
 
 -- ---- each step
 
@@ -110,14 +112,14 @@ module _ (w : World) where
   next-kept {c} (movesOn j d at) k = moved-kept w c j d (moveOn d) at k (moveOn-follows w c d (k .drives j d at) (k .lawful (d .t)))
   next-kept {c} (starts j lent q t u) k =
       unless-kept w c j (startRefusal q t (w .pieces t)) lent (began t q 0 1 (w .pieces t) 0) k
-        (λ e. begins w c t q 0 1 0 (w .pieces t) k refl (not-taken c (startRefusal q t (w .pieces t)) lent (began t q 0 1 (w .pieces t) 0) u e) (lit< tt) (λ z. refl))
+      (λ e. begins w c t q 0 1 0 (w .pieces t) k refl (not-taken c (startRefusal q t (w .pieces t)) lent (began t q 0 1 (w .pieces t) 0) u e) (lit< tt) (λ z. refl))
   next-kept {c} (recovers j lent q t floor u) k =
       unless-kept w c j (recoverRefusal q t (w .pieces t) floor) lent (began t q (nextAbove q floor) 0 (w .pieces t) 0) k
-        (λ e. begins w c t q (nextAbove q floor) 0 0 (w .pieces t) k refl (not-taken c (recoverRefusal q t (w .pieces t) floor) lent (began t q (nextAbove q floor) 0 (w .pieces t) 0) u e) (lit< tt) (λ z. absurd (omega arith)))
+      (λ e. begins w c t q (nextAbove q floor) 0 0 (w .pieces t) k refl (not-taken c (recoverRefusal q t (w .pieces t) floor) lent (began t q (nextAbove q floor) 0 (w .pieces t) 0) u e) (lit< tt) (λ z. absurd (omega arith)))
   next-kept {c} (triesAgain j d at u) k =
       let z = began (d .t) (d .coordinator) (nextAbove (d .coordinator) (above d)) 0 (d .pieces) (d .seen) in
       unless-kept w c j (againRefusal d) d z k
-        (λ e. begins w c (d .t) (d .coordinator) (nextAbove (d .coordinator) (above d)) 0 (d .seen) (d .pieces) k (k .drives j d at .named) (not-taken c (againRefusal d) d z u e) (lit< tt) (λ z. absurd (omega arith)))
+      (λ e. begins w c (d .t) (d .coordinator) (nextAbove (d .coordinator) (above d)) 0 (d .seen) (d .pieces) k (k .drives j d at .named) (not-taken c (againRefusal d) d z u e) (lit< tt) (λ z. absurd (omega arith)))
   next-kept {c} (vanishes j) k = vanished-kept w c j k
 
   pub reached-kept : {c : Cluster} → Reached w c → Kept w c

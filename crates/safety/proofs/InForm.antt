@@ -1,33 +1,27 @@
 -- Every server and every live drive is in form, always. Assumes nothing.
-use mathlib.Core.Path.{_≡_, refl, sym, _∙_, ap, subst}
-use mathlib.Core.Logic.{_⊎_, inl, inr, _≢_}
+use mathlib.Core.Path.{_≡_, refl, sym, subst}
 use mathlib.Core.Bool.{Bool, true, false, cond}
-use mathlib.Core.Option.{Option, none, some, Option·some-injective, Option·none-ne-some}
-use mathlib.Core.List.{List, _∷_}
+use mathlib.Core.Option.{none, some, Option·some-injective, Option·none-ne-some}
+use mathlib.Core.List.{_∷_}
 use Prim.Native.Nat.{ℕ, _/_, _^_, _≤_, _<_}
 use native.Mathlib.Omega.{arith}
-use native.Mathlib.Decide.{decLt, ℕ-discrete}
+use native.Mathlib.Decide.{decLt}
 use borrow.Author.Tests.{eqb-true, le-ltb}
 use lib.Dec.{eqb}
 use lib.Pow.{pow-pos}
 use lib.ListN.{length, getD, List·getD-eq-default}
 use Rattle.masks.specs.Folds.{tab}
 use Rattle.masks.proofs.FoldLaws.{getD-tab, length-tab, unions-bound}
-use Rattle.rules.specs.Cluster.{badServer}
 use Rattle.rules.specs.Sets.{word, members}
 use Rattle.graph.proofs.Rows.{Words}
-use Rattle.wire.specs.declared.Message.{Message}
-use Rattle.server.specs.declared.Changed.{Changed}
 use Rattle.server.specs.declared.Server.{Server}
 use Rattle.server.specs.declared.Ran.{Ran}
 use Rattle.server.specs.Held.{recordAt, committedAt}
-use Rattle.server.specs.Form as S
 use Rattle.server.specs.Host.{freshServer}
 use Rattle.server.specs.Run.{depsAt, depsOf}
-use Rattle.server.specs.Serve.{arrivalFor}
 use Rattle.server.proofs.FormParts.{Formed, parts-formed}
 use Rattle.server.proofs.ServeKeepsForm.{after-form}
-use Rattle.server.proofs.RunKeepsForm.{Memory, Sound, run-sound, runAll-sound, fresh-sound}
+use Rattle.server.proofs.RunKeepsForm.{Sound, run-sound, runAll-sound, fresh-sound}
 use Rattle.drive.specs.declared.Drive.{Drive}
 use Rattle.drive.specs.declared.Moved.{Moved}
 use Rattle.drive.specs.Form as D

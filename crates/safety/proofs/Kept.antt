@@ -1,25 +1,22 @@
 -- What is kept in every history about ballots and sets: each number lawful, each drive known, each ballot with one drive. And how a step that moves no drive keeps it.
 -- Assumes nothing.
-use mathlib.Core.Path.{_≡_, refl, sym, _∙_, ap, subst}
-use mathlib.Core.Logic.{_⊎_, inl, inr, _≢_}
-use mathlib.Core.Bool.{Bool, true, false}
-use mathlib.Core.Option.{Option, none, some}
-use mathlib.Core.List.{List, List·Memᴰ}
+use mathlib.Core.Path.{_≡_, sym, _∙_, ap, subst}
+use mathlib.Core.Logic.{_⊎_, inl, inr}
+use mathlib.Core.Option.{Option, some}
+use mathlib.Core.List.{List·Memᴰ}
 use Prim.Native.Nat.{ℕ, _<_}
 use lib.ListN.{length}
 use native.Mathlib.Omega.{arith}
 use Rattle.rules.specs.declared.Set.{Set}
-use Rattle.rules.specs.declared.MaybeWord.{MaybeWord}
 use Rattle.wire.specs.Codes.{PreAcceptOK}
 use Rattle.drive.specs.declared.Answer.{Answer}
 use Rattle.drive.specs.declared.Drive.{Drive}
-use Rattle.drive.specs.Held.{counted, answerAt}
-use Rattle.safety.specs.Cluster.{World, Cluster, Taken, ballotOf}
+use Rattle.safety.specs.Cluster.{World, Cluster, ballotOf}
 use Rattle.safety.proofs.Slice.{Slice}
 use Rattle.safety.proofs.Summary.{Step, free-stays, proposal-stays, chosen-stays}
 use Rattle.safety.proofs.Agreement.{Lawful, lawful-kept}
-use Rattle.safety.proofs.View.{Said, SaysPreAcceptOK, sliceOf, touchedOf}
-use Rattle.safety.proofs.DriveIn.{Heard, Stage, DriveIn}
+use Rattle.safety.proofs.View.{sliceOf, touchedOf}
+use Rattle.safety.proofs.DriveIn.{Heard, DriveIn}
 
 -- the servers' names and sizes
 pub record Sizes (c : Cluster) : Type 0 where
@@ -47,24 +44,27 @@ pub record Grows (c c′ : Slice) : Type 0 where
 module _ (w : World) (c c′ : Cluster) (d : Drive) (st : Step (touchedOf w (d .t)) (sliceOf c (d .t)) (sliceOf c′ (d .t))) (gr : Grows (sliceOf c (d .t)) (sliceOf c′ (d .t))) where
   heard-stays : (p b s : ℕ) (a : Answer) → Heard (sliceOf c (d .t)) p b s a → Heard (sliceOf c′ (d .t)) p b s a
   heard-stays p b s a h = record {
-      prepared = λ e. st .prepareOK-stays (h .prepared e);
-      worded = h .worded;
-      preAccepted = λ e. gr .preAcceptOK (h .preAccepted e);
-      accepted = λ e. st .acceptOK-stays (h .accepted e) }
+    prepared = λ e. st .prepareOK-stays (h .prepared e);
+    worded = h .worded;
+    preAccepted = λ e. gr .preAcceptOK (h .preAccepted e);
+    accepted = λ e. st .acceptOK-stays (h .accepted e);
+  }
 
   -- where what was proposed at its ballot is what was, or its own set
   pub drive-stays : ((v : Set) → sliceOf c′ (d .t) .Accept (d .ballot) v → sliceOf c (d .t) .Accept (d .ballot) v ⊎ ((d .phase ≡ 2) × (v ≡ d .chosen .set))) → DriveIn w c d → DriveIn w c′ d
   drive-stays f di = record {
-      named = di .named;
-      places = di .places;
-      own = di .own;
-      heard = λ s q. heard-stays _ _ s _ (di .heard s q);
-      stage = record {
-        early = λ l v a. early l v (f v a);
-        free = λ e p. free-stays st (di .stage .free e p);
-        proposed = λ e. proposal-stays st (di .stage .proposed e);
-        alone = λ e v a. alone e v (f v a);
-        chosen = λ e. chosen-stays st (di .stage .chosen e) } }
+    named = di .named;
+    places = di .places;
+    own = di .own;
+    heard = λ s q. heard-stays _ _ s _ (di .heard s q);
+    stage = record {
+      early = λ l v a. early l v (f v a);
+      free = λ e p. free-stays st (di .stage .free e p);
+      proposed = λ e. proposal-stays st (di .stage .proposed e);
+      alone = λ e v a. alone e v (f v a);
+      chosen = λ e. chosen-stays st (di .stage .chosen e);
+    };
+  }
     where
       early : d .phase < 2 → (v : Set) → sliceOf c (d .t) .Accept (d .ballot) v ⊎ ((d .phase ≡ 2) × (v ≡ d .chosen .set)) → ⊥
       early l v (inl a) = di .stage .early l v a
@@ -82,10 +82,12 @@ module _ (w : World) (c c′ : Cluster) (es : c′ .stations ≡ c .stations) (e
 
   pub quiet-kept : ((t b : ℕ) (v : Set) → sliceOf c′ t .Accept b v → sliceOf c t .Accept b v) → Sizes c′ → Kept w c → Kept w c′
   quiet-kept old sz k = record {
-      sizes = sz;
-      ballots = record {
-        took = λ j d e. subst (List·Memᴰ (ballotOf d)) (sym et) (k .ballots .took j d (at-station j d e));
-        alone = λ i j d e p q. k .ballots .alone i j d e (at-station i d p) (at-station j e q);
-        proposed = λ t b v a. subst (List·Memᴰ (record { number = t; ballot = b })) (sym et) (k .ballots .proposed t b v (old t b v a)) };
-      drives = λ j d e. drive-stays w c c′ d (st (d .t)) (gr (d .t)) (λ v a. inl (old (d .t) (d .ballot) v a)) (k .drives j d (at-station j d e));
-      lawful = λ t. lawful-kept (st t) (k .lawful t) }
+    sizes = sz;
+    ballots = record {
+      took = λ j d e. subst (List·Memᴰ (ballotOf d)) (sym et) (k .ballots .took j d (at-station j d e));
+      alone = λ i j d e p q. k .ballots .alone i j d e (at-station i d p) (at-station j e q);
+      proposed = λ t b v a. subst (List·Memᴰ (record { number = t; ballot = b })) (sym et) (k .ballots .proposed t b v (old t b v a));
+    };
+    drives = λ j d e. drive-stays w c c′ d (st (d .t)) (gr (d .t)) (λ v a. inl (old (d .t) (d .ballot) v a)) (k .drives j d (at-station j d e));
+    lawful = λ t. lawful-kept (st t) (k .lawful t);
+  }

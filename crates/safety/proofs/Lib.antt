@@ -38,4 +38,5 @@ pub mod Replays
 pub mod EqualCounters
 pub mod Scripts
 pub mod Witness
+pub mod Never13
 pub mod Theorem

@@ -1,13 +1,13 @@
 -- In every history each server's log is in the order of the server's dependencies. Assumes nothing.
 use mathlib.Core.Path.{_≡_, refl, sym, _∙_, ap, subst}
-use mathlib.Core.Bool.{Bool, true, false, cond}
-use mathlib.Core.List.{List, [], List·Memᴰ, List·Memᴰ·not-nil}
+use mathlib.Core.Bool.{true, cond}
+use mathlib.Core.List.{List·Memᴰ·not-nil}
 use Prim.Native.Nat.{ℕ, _≤_, _<_}
 use native.Mathlib.Omega.{arith}
 use native.Mathlib.Decide.{decLt}
-use lib.ListN.{length, getD, set, List·getD-eq-default}
+use lib.ListN.{getD, set, List·getD-eq-default}
 use Rattle.masks.specs.Folds.{tab}
-use Rattle.masks.proofs.FoldLaws.{length-tab, tab-cong}
+use Rattle.masks.proofs.FoldLaws.{length-tab}
 use Rattle.rules.specs.declared.MaybeSet.{MaybeSet}
 use Rattle.rules.specs.Flags.{there}
 use Rattle.rules.specs.Sets.{members}
@@ -29,7 +29,7 @@ use Rattle.safety.proofs.Changes.{Runs, once, out, Change, serves, hasR
 use Rattle.safety.proofs.PiecesNamed.{runs-leave}
 use Rattle.safety.proofs.InForm.{AllFormal, sound-of, reached-formal}
 use Rattle.safety.proofs.Lists.{earlier-nil}
-use Rattle.safety.proofs.LogsInOrder.{InOrder, More, more-order}
+use Rattle.safety.proofs.LogsInOrder.{InOrder, more-order}
 use Rattle.safety.proofs.RunsInOrder.{Holds, Orderly, run-orderly, runAll-orderly}
 
 -- what t depends on at a server is in its committed set alone
@@ -49,9 +49,9 @@ pub commits-stay : (w : World) {c c′ : Cluster} → Change w c c′ → (s t :
 unfolding ran
 commits-stay w {c} (serves i m o l rs p did) s t =
     put-all (λ s z. committedAt (c .servers s) t ≡ true → recordAt z t .committed ≡ recordAt (c .servers s) t .committed) (c .servers) i _
-      (λ e. set-either (λ v. v .committed ≡ recordAt (c .servers i) t .committed) (c .servers i .records) (m .t) t (o .after) noRecord refl
-        (λ z. ap (λ (v : Record). v .committed) (did-committed did (subst (λ x. committedAt (c .servers i) x ≡ true) z e)) ∙ ap (λ x. recordAt (c .servers i) x .committed) (sym z)))
-      (λ s e. refl) s
+    (λ e. set-either (λ v. v .committed ≡ recordAt (c .servers i) t .committed) (c .servers i .records) (m .t) t (o .after) noRecord refl
+    (λ z. ap (λ (v : Record). v .committed) (did-committed did (subst (λ x. committedAt (c .servers i) x ≡ true) z e)) ∙ ap (λ x. recordAt (c .servers i) x .committed) (sym z)))
+    (λ s e. refl) s
 commits-stay w {c} (hasRun i r l rn) s t =
     put-all (λ s z. committedAt (c .servers s) t ≡ true → recordAt z t .committed ≡ recordAt (c .servers s) t .committed) (c .servers) i (r .server) (λ e. runs-leave rn .held t .committed) (λ s e. refl) s
 commits-stay w (sent j d m at du) s t = λ e. refl
@@ -74,7 +74,7 @@ logs-kept : (w : World) {c c′ : Cluster} → Kept w c → AllFormal c → Chan
 unfolding ran
 logs-kept w {c} k f (serves i m o l rs p did) lo =
     put-all (λ s z. s < 12 → LogOrder z) (c .servers) i _
-      (λ q. more-order (record { still = λ t e. still-committed (stay t e) e; same = λ t e. deps-same (c .servers i) _ t (stay t e) }) (lo i q)) lo
+    (λ q. more-order (record { still = λ t e. still-committed (stay t e) e; same = λ t e. deps-same (c .servers i) _ t (stay t e) }) (lo i q)) lo
   where
     stay : (t : ℕ) → committedAt (c .servers i) t ≡ true → getD (set (c .servers i .records) (m .t) (o .after)) t noRecord .committed ≡ recordAt (c .servers i) t .committed
     stay t e = set-either (λ v. v .committed ≡ recordAt (c .servers i) t .committed) (c .servers i .records) (m .t) t (o .after) noRecord refl

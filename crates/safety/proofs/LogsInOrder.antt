@@ -1,16 +1,15 @@
 -- A list of numbers run in the order of their dependencies: each committed, with all before it in the list; of two that depend both ways the lower first, else the one before first.
 -- More commits keep it so, and so does an order of first runs that takes up such a list. Assumes nothing.
-use mathlib.Core.Path.{_≡_, refl, sym, _∙_, ap, subst}
-use mathlib.Core.Logic.{_⊎_, inl, inr, _≢_}
-use mathlib.Core.List.{List, [], _∷_, _++_, append-nil, append-assoc, List·Memᴰ, List·Memᴰ·head, List·Memᴰ·tail, List·Memᴰ·cases-cons, List·Memᴰ·not-nil, List·Memᴰ·append-cases, Memᴰ·append-left, Memᴰ·append-right, List·Memᴰ·eq-of-singleton}
+use mathlib.Core.Path.{_≡_, sym, _∙_, subst}
+use mathlib.Core.Logic.{_⊎_, inl, inr}
+use mathlib.Core.List.{List, [], _∷_, _++_, append-nil, append-assoc, List·Memᴰ, List·Memᴰ·head, List·Memᴰ·tail, List·Memᴰ·cases-cons, List·Memᴰ·not-nil, List·Memᴰ·append-cases, Memᴰ·append-left, Memᴰ·append-right}
 use Prim.Native.Nat.{ℕ, _<_}
 use native.Mathlib.Omega.{arith}
 use lib.ListN.{getD}
 use Rattle.masks.specs.Bits.{In}
 use Rattle.graph.specs.Before.{Before, direct, behind}
-use Rattle.graph.proofs.Rows.{trans}
 use Rattle.safety.specs.Orders.{Earlier, first, later, noting, firsts}
-use Rattle.safety.proofs.Lists.{earlier-fst, earlier-snd, earlier-nil, Split, earlier-split, one-earlier, Noted, there, added, noted, noted-from, noted-old}
+use Rattle.safety.proofs.Lists.{earlier-fst, earlier-snd, Split, earlier-split, one-earlier, Noted, there, added, noted}
 
 pub record InOrder (deps : List ℕ) (C : ℕ → Type 0) (l : List ℕ) : Type 0 where
   pub committed : (t : ℕ) → List·Memᴰ t l → C t
@@ -38,10 +37,11 @@ module _ {deps deps′ : List ℕ} {C C′ : ℕ → Type 0} {l : List ℕ} (g :
 
   pub more-order : InOrder deps′ C′ l
   more-order = record {
-      committed = λ t m. g .still t (i .committed t m);
-      before = λ t u m h. i .before t u m (before-then m h);
-      order = λ t u m h. let r = i .order t u m (before-then (earlier-fst m) h) in (before-now (earlier-snd m) (r .0), r .1);
-      once = i .once }
+    committed = λ t m. g .still t (i .committed t m);
+    before = λ t u m h. i .before t u m (before-then m h);
+    order = λ t u m h. let r = i .order t u m (before-then (earlier-fst m) h) in (before-now (earlier-snd m) (r .0), r .1);
+    once = i .once;
+  }
 
 -- ---- an order of first runs takes up a list
 
@@ -61,21 +61,25 @@ adds o (x ∷ l) = go (noted x o) (adds (noting x o) l)
   where
     go : {p : List ℕ} → Noted x o p → Adds l p (firsts p l) → Adds (x ∷ l) o (firsts p l)
     go (there k) a = record {
-        rest = a .rest; is = a .is; new = a .new;
-        from = λ t h. List·Memᴰ·tail (a .from t h);
-        earlier = λ t u h. later (a .earlier t u h);
-        all = λ t h. all t (List·Memᴰ·cases-cons h) }
+      rest = a .rest;
+      is = a .is;
+      new = a .new;
+      from = λ t h. List·Memᴰ·tail (a .from t h);
+      earlier = λ t u h. later (a .earlier t u h);
+      all = λ t h. all t (List·Memᴰ·cases-cons h);
+    }
       where
         all : (t : ℕ) → (t ≡ x) ⊎ List·Memᴰ t l → List·Memᴰ t (firsts o l)
         all t (inl e) = subst (λ x. List·Memᴰ x (firsts o l)) (sym e) (subst (List·Memᴰ x) (sym (a .is)) (Memᴰ·append-left (a .rest) k))
         all t (inr h) = a .all t h
     go (added n) a = record {
-        rest = x ∷ a .rest;
-        is = a .is ∙ append-assoc o (x ∷ []) (a .rest);
-        new = λ t h k. new t k (List·Memᴰ·cases-cons h);
-        from = λ t h. from t (List·Memᴰ·cases-cons h);
-        earlier = earlier;
-        all = λ t h. all t (List·Memᴰ·cases-cons h) }
+      rest = x ∷ a .rest;
+      is = a .is ∙ append-assoc o (x ∷ []) (a .rest);
+      new = λ t h k. new t k (List·Memᴰ·cases-cons h);
+      from = λ t h. from t (List·Memᴰ·cases-cons h);
+      earlier = earlier;
+      all = λ t h. all t (List·Memᴰ·cases-cons h);
+    }
       where
         new : (t : ℕ) → List·Memᴰ t o → (t ≡ x) ⊎ List·Memᴰ t (a .rest) → ⊥
         new t k (inl e) = n (subst (λ y. List·Memᴰ y o) e k)
@@ -95,10 +99,11 @@ adds o (x ∷ l) = go (noted x o) (adds (noting x o) l)
 
 pub firsts-order : {deps : List ℕ} {C : ℕ → Type 0} (o l : List ℕ) → InOrder deps C o → InOrder deps C l → InOrder deps C (firsts o l)
 firsts-order {deps} {C} o l i j = subst (InOrder deps C) (sym (a .is)) (record {
-    committed = λ t m. committed t (List·Memᴰ·append-cases o m);
-    before = λ t u m h. before t u h (List·Memᴰ·append-cases o m);
-    order = λ t u m h. order t u h (earlier-split o (a .rest) m);
-    once = λ t m. once t (earlier-split o (a .rest) m) })
+  committed = λ t m. committed t (List·Memᴰ·append-cases o m);
+  before = λ t u m h. before t u h (List·Memᴰ·append-cases o m);
+  order = λ t u m h. order t u h (earlier-split o (a .rest) m);
+  once = λ t m. once t (earlier-split o (a .rest) m);
+})
   where
     a : Adds l o (firsts o l)
     a = adds o l

@@ -1,23 +1,18 @@
 -- No message that reaches a server differs in its pieces from those held, or in its set from the committed one. Assumes nothing.
 use mathlib.Core.Path.{_≡_, refl, sym, _∙_, ap, subst}
-use mathlib.Core.Logic.{_⊎_, inl, inr, _≢_}
-use mathlib.Core.Bool.{Bool, true, false, not, _&&_, false≢true}
+use mathlib.Core.Bool.{true, not, _&&_, false≢true}
 use mathlib.Core.List.{List·Memᴰ}
-use Prim.Native.Nat.{ℕ, _<_}
-use native.Mathlib.Omega.{arith}
+use Prim.Native.Nat.{ℕ}
 use Rattle.masks.proofs.Bools.{and-yes-l, and-yes-r, not-yes, true-and-false}
 use Rattle.rules.specs.declared.Pieces.{Pieces}
-use Rattle.rules.specs.declared.Set.{Set}
 use Rattle.rules.specs.Flags.{there}
 use Rattle.rules.specs.Pieces.{anyPieces, samePieces}
 use Rattle.rules.specs.Sets.{sameSet}
 use Rattle.rules.proofs.SamePieces.{same-refl}
 use Rattle.rules.proofs.SetLaws.{set-same}
 use Rattle.wire.specs.declared.Message.{Message}
-use Rattle.wire.specs.Codes.{shapeOf, Inquire, Fetch, commits}
-use Rattle.server.specs.Held.{recordAt}
+use Rattle.wire.specs.Codes.{shapeOf, commits}
 use Rattle.server.specs.Refusals.{otherPieces, otherSet}
-use Rattle.server.specs.Serve.{serve}
 use Rattle.server.proofs.Passed.{refused5, refused6, serve-refusal}
 use Rattle.safety.specs.Cluster.{World, Cluster, Reaches, Reached}
 use Rattle.safety.specs.Statements.{NeverOther}
@@ -56,10 +51,11 @@ module _ (w : World) (c : Cluster) (r : Reached w c) (s : ℕ) (m : Message) (rs
       let l = reached-kept w r .lawful (m .t) in
       let sent = was-sent rs (λ z. false≢true (sym (ap commits z) ∙ k)) (λ z. false≢true (sym (ap commits z) ∙ k)) in
       true-and-false
-        (set-same (recordOf c s (m .t) .committed .set) (m .set) (chosen-agree l (l .committed .each _ (CommitOf.held s (and-yes-r K A e1) refl)) (l .committed .each _ (CommitOf.sent m sent k refl refl))))
-        (not-yes X (and-yes-r (K && A) (not X) e))
+      (set-same (recordOf c s (m .t) .committed .set) (m .set) (chosen-agree l (l .committed .each _ (CommitOf.held s (and-yes-r K A e1) refl)) (l .committed .each _ (CommitOf.sent m sent k refl refl))))
+      (not-yes X (and-yes-r (K && A) (not X) e))
 
 pub never-other : (w : World) (c : Cluster) → Reached w c → NeverOther c
 never-other w c r = record {
-    pieces = λ s m l rs e. same-pieces w c r s m rs (refused5 (c .servers s) m (sym (serve-refusal (c .servers s) m) ∙ e) .other);
-    sets = λ s m l rs e. same-set w c r s m rs (refused6 (c .servers s) m (sym (serve-refusal (c .servers s) m) ∙ e) .other) }
+  pieces = λ s m l rs e. same-pieces w c r s m rs (refused5 (c .servers s) m (sym (serve-refusal (c .servers s) m) ∙ e) .other);
+  sets = λ s m l rs e. same-set w c r s m rs (refused6 (c .servers s) m (sym (serve-refusal (c .servers s) m) ∙ e) .other);
+}

@@ -1,20 +1,19 @@
 -- One order of all numbers, that of first runs anywhere, in which every server ran its pairs in conflict. Assumes nothing.
 use mathlib.Core.Path.{_≡_, refl, sym, _∙_, ap, subst}
-use mathlib.Core.Logic.{_⊎_, inl, inr, _≢_}
-use mathlib.Core.Bool.{Bool, true, false, cond, true≢false}
-use mathlib.Core.List.{List, [], _∷_, _++_, append-nil, List·Memᴰ, List·Memᴰ·not-nil}
+use mathlib.Core.Logic.{_⊎_, inl, inr}
+use mathlib.Core.Bool.{Bool, true, cond, true≢false}
+use mathlib.Core.List.{List, [], _++_, append-nil, List·Memᴰ, List·Memᴰ·not-nil}
 use Prim.Native.Nat.{ℕ, _≤_, _<_}
 use native.Mathlib.Omega.{arith}
 use native.Mathlib.Decide.{decLt}
-use borrow.Author.Tests.{ltb-true, lt-ltb}
+use borrow.Author.Tests.{ltb-true}
 use lib.Dec.{ltb}
 use lib.ListN.{getD, List·getD-eq-default}
 use Rattle.masks.specs.Bits.{In}
-use Rattle.masks.specs.Folds.{anyBelow, least, tab}
-use Rattle.masks.proofs.FoldLaws.{any-of, least-any, least-at, getD-tab, length-tab}
+use Rattle.masks.specs.Folds.{least, tab}
+use Rattle.masks.proofs.FoldLaws.{any-of, least-any, least-at, getD-tab}
 use Rattle.rules.specs.declared.Pieces.{Pieces}
 use Rattle.rules.specs.Pieces.{piecesKept}
-use Rattle.rules.specs.declared.Set.{Set}
 use Rattle.rules.specs.declared.MaybeSet.{MaybeSet}
 use Rattle.rules.specs.Flags.{there}
 use Rattle.rules.specs.Sets.{word, members}
@@ -23,19 +22,18 @@ use Rattle.rules.proofs.SetLaws.{in-members-of}
 use Rattle.graph.specs.Before.{Before, direct}
 use Rattle.server.specs.declared.Record.{Record}
 use Rattle.server.specs.declared.Server.{Server}
-use Rattle.server.specs.declared.Ran.{Ran}
-use Rattle.server.specs.Held.{noRecord, recordAt, committedAt}
+use Rattle.server.specs.Held.{noRecord, committedAt}
 use Rattle.server.specs.Host.{freshServer}
-use Rattle.server.specs.Run.{depsAt, depsOf}
-use Rattle.server.proofs.RunKeepsForm.{deps-at, deps-committed}
-use Rattle.safety.specs.Orders.{entries, Earlier, firsts, completed}
-use Rattle.safety.specs.Cluster.{World, Cluster, firstServer, atFirst, ran, Next, Reached, fresh, then}
+use Rattle.server.specs.Run.{depsOf}
+use Rattle.server.proofs.RunKeepsForm.{deps-committed}
+use Rattle.safety.specs.Orders.{entries, Earlier, firsts}
+use Rattle.safety.specs.Cluster.{World, Cluster, firstServer, atFirst, ran, Reached, fresh, then}
 use Rattle.safety.specs.Statements.{Committed, logOf, OneOrder, OrderGrows}
 use Rattle.safety.proofs.Answers.{shard-below}
 use Rattle.safety.proofs.View.{recordOf, put-same, put-all}
 use Rattle.safety.proofs.Kept.{Kept}
 use Rattle.safety.proofs.Histories.{agreement, reached-kept}
-use Rattle.safety.proofs.Changes.{Runs, Change, serves, hasRun, sent, quiet, change-of}
+use Rattle.safety.proofs.Changes.{Change, serves, hasRun, sent, quiet, change-of}
 use Rattle.safety.proofs.Coverage.{coverage}
 use Rattle.safety.proofs.Conflicts.{conflict-touches}
 use Rattle.safety.proofs.Lists.{earlier-fst, earlier-snd, earlier-nil, firsts-grows, firsts-old, firsts-new, completed-earlier, completed-all, completed-once}
@@ -89,17 +87,19 @@ module _ (w : World) (c : Cluster) (r : Reached w c) where
   -- a server's dependencies are among them
   server-more : (s : ℕ) → s < 12 → More (depsOf (c .servers s)) (allDeps c) (Holds (c .servers s)) (Anywhere c)
   server-more s l = record {
-      still = λ t e. record { server = s; small = l; holds = e };
-      same = λ t e. let q = committed-small w c (reached-kept w r) s t e in all-deps w c r s t l q e ∙ sym (deps-committed (c .servers s) t q e) }
+    still = λ t e. record { server = s; small = l; holds = e };
+    same = λ t e. let q = committed-small w c (reached-kept w r) s t e in all-deps w c r s t l q e ∙ sym (deps-committed (c .servers s) t q e);
+  }
 
 -- a step leaves them
 step-more : (w : World) (c c′ : Cluster) → Reached w c → Reached w c′ → Change w c c′ → More (allDeps c) (allDeps c′) (Anywhere c) (Anywhere c′)
 step-more w c c′ r r′ ch = record {
-    still = λ t a. record { server = a .server; small = a .small; holds = still-committed (commits-stay w ch (a .server) t (a .holds)) (a .holds) };
-    same = λ t a.
+  still = λ t a. record { server = a .server; small = a .small; holds = still-committed (commits-stay w ch (a .server) t (a .holds)) (a .holds) };
+  same = λ t a.
       let q = committed-small w c (reached-kept w r) (a .server) t (a .holds) in
       let e = commits-stay w ch (a .server) t (a .holds) in
-      all-deps w c′ r′ (a .server) t (a .small) q (still-committed e (a .holds)) ∙ ap (λ (v : MaybeSet). members (v .set)) e ∙ sym (all-deps w c r (a .server) t (a .small) q (a .holds)) }
+      all-deps w c′ r′ (a .server) t (a .small) q (still-committed e (a .holds)) ∙ ap (λ (v : MaybeSet). members (v .set)) e ∙ sym (all-deps w c r (a .server) t (a .small) q (a .holds));
+}
 
 -- ---- the order of first runs
 
@@ -110,23 +110,27 @@ pub record History (c : Cluster) : Type 0 where
 history-kept : (w : World) {c c′ : Cluster} → Reached w c → Reached w c′ → LogOrders c′ → Change w c c′ → History c → History c′
 unfolding ran
 history-kept w {c} {c′} r r′ lo (serves i m o l rs p did) h = record {
-    order = more-order (step-more w c c′ r r′ (serves i m o l rs p did)) (h .order);
-    logs = λ s t. put-all (λ s z. s < 12 → List·Memᴰ t (entries (z .log)) → List·Memᴰ t (c .order)) (c .servers) i _ (h .logs i t) (λ s. h .logs s t) s }
+  order = more-order (step-more w c c′ r r′ (serves i m o l rs p did)) (h .order);
+  logs = λ s t. put-all (λ s z. s < 12 → List·Memᴰ t (entries (z .log)) → List·Memᴰ t (c .order)) (c .servers) i _ (h .logs i t) (λ s. h .logs s t) s;
+}
 history-kept w {c} {c′} r r′ lo (hasRun i q l rn) h = record {
-    order = firsts-order (c .order) (entries (q .server .log)) (more-order (step-more w c c′ r r′ (hasRun i q l rn)) (h .order))
+  order = firsts-order (c .order) (entries (q .server .log)) (more-order (step-more w c c′ r r′ (hasRun i q l rn)) (h .order))
       (subst (λ (z : Server). InOrder (allDeps c′) (Anywhere c′) (entries (z .log))) (put-same (c .servers) i (q .server)) (more-order (server-more w c′ r′ i l) (lo i l)));
-    logs = λ s t. put-all (λ s z. s < 12 → List·Memᴰ t (entries (z .log)) → List·Memᴰ t (firsts (c .order) (entries (q .server .log)))) (c .servers) i (q .server)
-      (λ z. firsts-new (c .order) (entries (q .server .log)) t) (λ s z k. firsts-old (c .order) (entries (q .server .log)) t (h .logs s t z k)) s }
+  logs = λ s t. put-all (λ s z. s < 12 → List·Memᴰ t (entries (z .log)) → List·Memᴰ t (firsts (c .order) (entries (q .server .log)))) (c .servers) i (q .server)
+      (λ z. firsts-new (c .order) (entries (q .server .log)) t) (λ s z k. firsts-old (c .order) (entries (q .server .log)) t (h .logs s t z k)) s;
+}
 history-kept w {c} {c′} r r′ lo (sent j d m at du) h = record { order = more-order (step-more w c c′ r r′ (sent j d m at du)) (h .order); logs = h .logs }
 history-kept w {c} {c′} r r′ lo (quiet q) h = record {
-    order = subst (InOrder (allDeps c′) (Anywhere c′)) (sym (q .order)) (more-order (step-more w c c′ r r′ (quiet q)) (h .order));
-    logs = λ s t l k. subst (List·Memᴰ t) (sym (q .order)) (h .logs s t l (subst (λ (z : Server). List·Memᴰ t (entries (z .log))) (q .servers s) k)) }
+  order = subst (InOrder (allDeps c′) (Anywhere c′)) (sym (q .order)) (more-order (step-more w c c′ r r′ (quiet q)) (h .order));
+  logs = λ s t l k. subst (List·Memᴰ t) (sym (q .order)) (h .logs s t l (subst (λ (z : Server). List·Memᴰ t (entries (z .log))) (q .servers s) k));
+}
 
 first-history : (w : World) → History (atFirst w)
 unfolding atFirst firstServer freshServer entries
 first-history w = record {
-    order = record { committed = λ t m. absurd (List·Memᴰ·not-nil m); before = λ t u m. absurd (List·Memᴰ·not-nil m); order = λ t u m. absurd (earlier-nil m); once = λ t m. earlier-nil m };
-    logs = λ s t l k. absurd (List·Memᴰ·not-nil k) }
+  order = record { committed = λ t m. absurd (List·Memᴰ·not-nil m); before = λ t u m. absurd (List·Memᴰ·not-nil m); order = λ t u m. absurd (earlier-nil m); once = λ t m. earlier-nil m };
+  logs = λ s t l k. absurd (List·Memᴰ·not-nil k);
+}
 
 pub reached-history : (w : World) {c : Cluster} → Reached w c → History c
 reached-history w fresh = first-history w
@@ -136,9 +140,10 @@ reached-history w (then r s) = history-kept w r (then r s) (reached-logs w (then
 
 pub one-order : (w : World) (c : Cluster) → Reached w c → OneOrder w c
 one-order w c r = record {
-    all = completed-all (c .order) 64;
-    once = completed-once (c .order) 64 (h .order .once);
-    runs = λ s t u k l m cf. completed-earlier (c .order) 64 t u (runs s t u k l m cf) }
+  all = completed-all (c .order) 64;
+  once = completed-once (c .order) 64 (h .order .once);
+  runs = λ s t u k l m cf. completed-earlier (c .order) 64 t u (runs s t u k l m cf);
+}
   where
     h : History c
     h = reached-history w r

@@ -13,8 +13,9 @@ pub record OneProposal (touched : ℕ) (c : Slice) : Type 0 where
 module _ {touched : ℕ} {c c′ : Slice} (st : Step touched c c′) where
   pub proposal-kept : OneProposal touched c → OneProposal touched c′
   proposal-kept i = record {
-      one = λ b v v′ k k′. one b v v′ k k′ (st .accept-new b v k) (st .accept-new b v′ k′);
-      sound = λ b v k. sound b v (st .accept-new b v k) }
+    one = λ b v v′ k k′. one b v v′ k k′ (st .accept-new b v k) (st .accept-new b v′ k′);
+    sound = λ b v k. sound b v (st .accept-new b v k);
+  }
     where
       one : (b : ℕ) (v v′ : Set) → c′ .Accept b v → c′ .Accept b v′ → c .Accept b v ⊎ Proposing touched c c′ b v → c .Accept b v′ ⊎ Proposing touched c c′ b v′ → v ≡ v′
       one b v v′ k k′ (inl h) (inl h′) = i .one b v v′ h h′

@@ -1,8 +1,8 @@
 -- The pieces of a number are the same wherever they are: at servers, in drives, in messages. Assumes nothing.
 use mathlib.Core.Path.{_≡_, refl, sym, _∙_, ap, subst}
 use mathlib.Core.Logic.{_⊎_, inl, inr, _≢_}
-use mathlib.Core.Bool.{Bool, true, false, not, true≢false, false≢true, _&&_, _||_}
-use mathlib.Core.List.{List, [], _∷_, List·Memᴰ, List·Memᴰ·cases-cons}
+use mathlib.Core.Bool.{true, false, not, false≢true}
+use mathlib.Core.List.{List·Memᴰ, List·Memᴰ·cases-cons}
 use Prim.Native.Nat.{ℕ}
 use native.Mathlib.Omega.{arith}
 use borrow.Author.Tests.{eqb-true}
@@ -22,7 +22,7 @@ use Rattle.server.specs.declared.Server.{Server}
 use Rattle.server.specs.Held.{recordAt}
 use Rattle.server.specs.declared.Ran.{Ran}
 use Rattle.server.specs.Serve.{arrivalFor}
-use Rattle.server.proofs.Passed.{Passed, number-below}
+use Rattle.server.proofs.Passed.{one-no, number-below}
 use Rattle.server.proofs.Did.{Did, tells, isDone, preAcceptsFirst, preAcceptsAgain, accepts, prepares, commitsFirst}
 use Rattle.server.proofs.RunLeaves.{SameHeld, Leaves, run-leaves, runAll-leaves}
 use Rattle.drive.specs.declared.Drive.{Drive}
@@ -47,10 +47,11 @@ pub record Named (w : World) (c : Cluster) : Type 0 where
 
 pub named-same : {w : World} {t : ℕ} {v v′ : Record} → SameHeld v v′ → NamedRecord w t v → NamedRecord w t v′
 named-same {w} {t} e n = record {
-    any = λ h. e .pieces ∙ n .any (subst (λ (p : Pieces). anyPieces p ≡ true) (e .pieces) h);
-    arrived = λ h. e .pieces ∙ n .arrived (ap (λ (a : MaybeWord). there (a .some)) (sym (e .arrival)) ∙ h);
-    committed = λ h. e .pieces ∙ n .committed (ap (λ (a : MaybeSet). there (a .some)) (sym (e .committed)) ∙ h);
-    kept = λ h. subst (λ (p : Pieces). piecesKept p ≡ true) (sym (e .pieces)) (n .kept (ap (λ (a : MaybeSet). there (a .some)) (sym (e .committed)) ∙ h)) }
+  any = λ h. e .pieces ∙ n .any (subst (λ (p : Pieces). anyPieces p ≡ true) (e .pieces) h);
+  arrived = λ h. e .pieces ∙ n .arrived (ap (λ (a : MaybeWord). there (a .some)) (sym (e .arrival)) ∙ h);
+  committed = λ h. e .pieces ∙ n .committed (ap (λ (a : MaybeSet). there (a .some)) (sym (e .committed)) ∙ h);
+  kept = λ h. subst (λ (p : Pieces). piecesKept p ≡ true) (sym (e .pieces)) (n .kept (ap (λ (a : MaybeSet). there (a .some)) (sym (e .committed)) ∙ h));
+}
 
 module _ (w : World) (c : Cluster) (na : Named w c) (i x : ℕ) (m : Message) (rs : Reaches c m) where
   -- the pieces of a message that asks or commits
@@ -75,14 +76,10 @@ module _ (w : World) (c : Cluster) (na : Named w c) (i x : ℕ) (m : Message) (r
   commit-pieces (inl e) = of-code Commit e refl (λ z. omega arith) (λ z. omega arith)
   commit-pieces (inr e) = of-code Done e refl (λ z. omega arith) (λ z. omega arith)
 
-  both-no : (a b : Bool) → (a && not b) ≡ false → a ≡ true → b ≡ true
-  both-no true b e h = not-no b e
-  both-no false b e h = absurd (false≢true h)
-
   commit-kept : badPieces m ≡ false → (m .code ≡ Commit) ⊎ (m .code ≡ Done) → piecesKept (m .pieces) ≡ true
   unfolding badPieces shapeOf
-  commit-kept h (inl e) = both-no (shapeOf (m .code) .pieces) (piecesKept (m .pieces)) h (subst (λ n. shapeOf n .pieces ≡ true) (sym e) refl)
-  commit-kept h (inr e) = both-no (shapeOf (m .code) .pieces) (piecesKept (m .pieces)) h (subst (λ n. shapeOf n .pieces ≡ true) (sym e) refl)
+  commit-kept h (inl e) = not-no (piecesKept (m .pieces)) (one-no (shapeOf (m .code) .pieces) (not (piecesKept (m .pieces))) h (subst (λ n. shapeOf n .pieces ≡ true) (sym e) refl))
+  commit-kept h (inr e) = not-no (piecesKept (m .pieces)) (one-no (shapeOf (m .code) .pieces) (not (piecesKept (m .pieces))) h (subst (λ n. shapeOf n .pieces ≡ true) (sym e) refl))
 
   -- an open number is named by the message
   opened : {v : Record} → v .pieces ≡ w .pieces (m .t) → there (v .committed .some) ≡ false → NamedRecord w (m .t) v
@@ -124,8 +121,9 @@ runs-leave {s} out = runAll-leaves s
 pub named-kept : (w : World) {c c′ : Cluster} → Kept w c → Change w c c′ → Named w c → Named w c′
 unfolding ran
 named-kept w {c} k (serves i m o l rs p did) na = record {
-    records = all-records c i (m .t) o (let n = number-below m (p .numbers) in omega (arith, k .sizes .records i)) (λ s t v. NamedRecord w t v) (did-named w c na i _ m rs (p .pieces) here) (na .records);
-    messages = λ r h. new r (List·Memᴰ·cases-cons h) }
+  records = all-records c i (m .t) o (let n = number-below m (p .numbers) in omega (arith, k .sizes .records i)) (λ s t v. NamedRecord w t v) (did-named w c na i _ m rs (p .pieces) here) (na .records);
+  messages = λ r h. new r (List·Memᴰ·cases-cons h);
+}
   where
     here : Did i (arrivalFor (c .servers i) m) (recordOf c i (m .t)) m o
     here = subst (λ n. Did n (arrivalFor (c .servers i) m) (recordOf c i (m .t)) m o) (k .sizes .ids i) did
@@ -134,13 +132,15 @@ named-kept w {c} k (serves i m o l rs p did) na = record {
     new r (inl e) = subst (λ (r : Message). shapeOf (r .code) .pieces ≡ true → r .pieces ≡ w .pieces (r .t)) (sym e) (did-reply w c na i _ m rs here)
     new r (inr h) = na .messages r h
 named-kept w {c} k (hasRun i r l rn) na = record {
-    records = λ s t. put-all (λ s x. NamedRecord w t (recordAt x t)) (c .servers) i (r .server) (named-same (runs-leave rn .held t) (na .records i t)) (λ s. na .records s t) s;
-    messages = na .messages }
+  records = λ s t. put-all (λ s x. NamedRecord w t (recordAt x t)) (c .servers) i (r .server) (named-same (runs-leave rn .held t) (na .records i t)) (λ s. na .records s t) s;
+  messages = na .messages;
+}
 named-kept w {c} k (sent j d m at du) na = record { records = na .records; messages = λ r h. new r (List·Memᴰ·cases-cons h) }
   where
     new : (r : Message) → (r ≡ m) ⊎ List·Memᴰ r (c .sent) → shapeOf (r .code) .pieces ≡ true → r .pieces ≡ w .pieces (r .t)
     new r (inl e) q = subst (λ (r : Message). r .pieces ≡ w .pieces (r .t)) (sym e) (due-named (k .drives j d at) du)
     new r (inr h) q = na .messages r h q
 named-kept w {c} k (quiet q) na = record {
-    records = λ s t. subst (λ (x : Server). NamedRecord w t (recordAt x t)) (sym (q .servers s)) (na .records s t);
-    messages = λ m h. na .messages m (subst (List·Memᴰ m) (q .sent) h) }
+  records = λ s t. subst (λ (x : Server). NamedRecord w t (recordAt x t)) (sym (q .servers s)) (na .records s t);
+  messages = λ m h. na .messages m (subst (List·Memᴰ m) (q .sent) h);
+}

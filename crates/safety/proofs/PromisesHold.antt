@@ -1,5 +1,5 @@
 -- A PrepareOK at a ballot says what its server had accepted; below that ballot the server accepts nothing more. Assumes nothing.
-use mathlib.Core.Path.{_≡_, refl, sym, _∙_, ap, subst}
+use mathlib.Core.Path.{sym, subst}
 use mathlib.Core.Logic.{_⊎_, inl, inr}
 use Prim.Native.Nat.{ℕ, _≤_, _<_}
 use native.Mathlib.Omega.{arith}
@@ -38,11 +38,12 @@ module _ {touched : ℕ} {c c′ : Slice} (st : Step touched c c′) (low : Acce
 
       old : (s b : ℕ) (a : MaybeWord) (o : MaybeVote) → Promised c s b a o → Promised c′ s b a o
       old s b a o h = record {
-          low = omega (arith, h .low, st .promise-le s);
-          arrived = λ w e. st .arrival-stays s w (h .arrived w e);
-          below = h .below;
-          asked = λ b′ v e. st .accept-stays (h .asked b′ v e);
-          past = λ b′ l k. past s b a o h b′ l (st .acceptOK-new s b′ k) }
+        low = omega (arith, h .low, st .promise-le s);
+        arrived = λ w e. st .arrival-stays s w (h .arrived w e);
+        below = h .below;
+        asked = λ b′ v e. st .accept-stays (h .asked b′ v e);
+        past = λ b′ l k. past s b a o h b′ l (st .acceptOK-new s b′ k);
+      }
 
       new : (s b : ℕ) (a : MaybeWord) (o : MaybeVote) → Preparing c c′ s b a o → Promised c′ s b a o
       new s b a o n =
@@ -53,8 +54,9 @@ module _ {touched : ℕ} {c c′ : Slice} (st : Step touched c c′) (low : Acce
             below = λ b′ v e. omega (arith, low .each s b′ v (held b′ v e) .low, n .low);
             asked = λ b′ v e. st .accept-stays (low .each s b′ v (held b′ v e) .asked);
             past = λ b′ l k.
-              let h = votes .each s b′ (n .quiet b′ k) in
-              record { at = h .at; set = h .set; holds = subst (λ (o : MaybeVote). Votes o (h .at) (h .set)) (sym (n .held)) (h .holds); since = h .since } }
+                let h = votes .each s b′ (n .quiet b′ k) in
+                record { at = h .at; set = h .set; holds = subst (λ (o : MaybeVote). Votes o (h .at) (h .set)) (sym (n .held)) (h .holds); since = h .since };
+          }
 
       go : (s b : ℕ) (a : MaybeWord) (o : MaybeVote) → c .PrepareOK s b a o ⊎ Preparing c c′ s b a o → Promised c′ s b a o
       go s b a o (inl k) = old s b a o (i .each s b a o k)

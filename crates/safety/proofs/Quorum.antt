@@ -1,6 +1,6 @@
 -- Three servers to a shard: any two majorities of a shard share a server. Assumes nothing.
 use mathlib.Core.Path.{_≡_, refl, sym, subst}
-use Prim.Native.Nat.{ℕ, _+_, _*_, _/_}
+use Prim.Native.Nat.{ℕ, _/_}
 use native.Mathlib.Omega.{arith}
 use Rattle.rules.specs.Cluster.{serverOf}
 

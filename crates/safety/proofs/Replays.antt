@@ -1,13 +1,12 @@
 -- A server's counters and results are what its log gives, from the counters that its shard began with. Assumes nothing.
 use mathlib.Core.Path.{_≡_, refl, sym, _∙_, ap, subst}
-use mathlib.Core.Logic.{_⊎_, inl, inr, _≢_}
-use mathlib.Core.Bool.{Bool, true, false, cond, true≢false}
+use mathlib.Core.Logic.{_⊎_, inl, inr}
+use mathlib.Core.Bool.{Bool, true, false, cond}
 use mathlib.Core.List.{List, [], _∷_, _++_, List·Memᴰ, List·Memᴰ·not-nil, List·Memᴰ·append-cases, List·Memᴰ·eq-of-singleton}
-use Prim.Native.Nat.{ℕ, _≤_, _<_}
+use Prim.Native.Nat.{ℕ, _<_}
 use native.Mathlib.Omega.{arith}
 use lib.ListN.{length, getD, set, length-set}
 use lib.Seq.{getD-set-same, getD-set-other}
-use Rattle.masks.specs.Bits.{has}
 use Rattle.masks.proofs.Bools.{true-and-false}
 use Rattle.rules.specs.declared.Pieces.{Pieces}
 use Rattle.rules.specs.declared.MaybeSet.{MaybeSet}
@@ -22,14 +21,14 @@ use Rattle.server.specs.Held.{noRecord, recordAt, shard, committedAt}
 use Rattle.server.specs.Form.{formed}
 use Rattle.server.specs.Host.{freshServer}
 use Rattle.server.specs.Run.{withResults, runOne, nextRun, runGroup, turn, ranNone, run, turns, ranFrom, runAll}
-use Rattle.server.proofs.RunLeaves.{Leaves, runOne-leaves, set-either}
+use Rattle.server.proofs.RunLeaves.{runOne-leaves, set-either}
 use Rattle.server.proofs.RunTurns.{turns-keep}
 use Rattle.server.proofs.RunsOneByOne.{May, ran-keeps, Logs, logs-more, list-more}
 use Rattle.server.proofs.RunKeepsForm.{Sound, logs-formed, group-sound, way}
 use Rattle.server.proofs.ServeKeepsForm.{did-committed}
 use Rattle.safety.specs.Orders.{entries}
 use Rattle.safety.specs.Cluster.{World, Cluster, firstServer, atFirst, ran, Reached, fresh, then}
-use Rattle.safety.proofs.View.{recordOf, put-all}
+use Rattle.safety.proofs.View.{put-all}
 use Rattle.safety.proofs.Kept.{Kept}
 use Rattle.safety.proofs.Histories.{reached-kept}
 use Rattle.safety.proofs.Changes.{Runs, once, out, Change, serves, hasRun, sent, quiet, change-of}
@@ -70,11 +69,12 @@ record Stand (w : World) (k : ℕ) (z : Server) : Type 0 where
 stand-more : (w : World) (k : ℕ) (x : Server) (t : ℕ) → May x t → Stand w k x → Stand w k (runOne x t)
 unfolding runOne
 stand-more w k x t m h = record {
-    logs = logs-more x t m (h .logs);
-    size = length-set (x .records) t _ ∙ h .size;
-    own = h .own;
-    named = λ u e. let q = runOne-leaves x t .held u in q .pieces ∙ h .named u (sym (ap (λ (v : MaybeSet). there (v .some)) (q .committed)) ∙ e);
-    replayed = record { counters = counters; results = λ u k. results u (List·Memᴰ·append-cases (entries (x .log)) (subst (List·Memᴰ u) more k)) } }
+  logs = logs-more x t m (h .logs);
+  size = length-set (x .records) t _ ∙ h .size;
+  own = h .own;
+  named = λ u e. let q = runOne-leaves x t .held u in q .pieces ∙ h .named u (sym (ap (λ (v : MaybeSet). there (v .some)) (q .committed)) ∙ e);
+  replayed = record { counters = counters; results = λ u k. results u (List·Memᴰ·append-cases (entries (x .log)) (subst (List·Memᴰ u) more k)) };
+}
   where
     pieces : recordAt x t .pieces ≡ w .pieces t
     pieces = h .named t (m .committed)
@@ -144,16 +144,17 @@ replayed-kept : (w : World) {c c′ : Cluster} → Kept w c → Named w c → Al
 unfolding ran
 replayed-kept w {c} k na f lo (serves i m o l rs p did) a =
     put-all (λ s z. s < 12 → Replayed w (shardOf s) z) (c .servers) i _
-      (λ q. record {
-        counters = a i q .counters;
-        results = λ u h. ap (λ (v : Record). v .values) (same u (lo i q .committed u h)) ∙ a i q .results u h }) a
+    (λ q. record {
+      counters = a i q .counters;
+      results = λ u h. ap (λ (v : Record). v .values) (same u (lo i q .committed u h)) ∙ a i q .results u h;
+    }) a
   where
     same : (u : ℕ) → committedAt (c .servers i) u ≡ true → getD (set (c .servers i .records) (m .t) (o .after)) u noRecord ≡ recordAt (c .servers i) u
     same u e = set-either (λ v. v ≡ recordAt (c .servers i) u) (c .servers i .records) (m .t) u (o .after) noRecord refl
-      (λ z. did-committed did (subst (λ x. committedAt (c .servers i) x ≡ true) z e) ∙ ap (recordAt (c .servers i)) (sym z))
+        (λ z. did-committed did (subst (λ x. committedAt (c .servers i) x ≡ true) z e) ∙ ap (recordAt (c .servers i)) (sym z))
 replayed-kept w {c} k na f lo (hasRun i r l rn) a =
     put-all (λ s z. s < 12 → Replayed w (shardOf s) z) (c .servers) i (r .server)
-      (λ q. runs-replayed w (shardOf i) rn (record { sound = sound-of w c k i (f i q); own = ap shardOf (k .sizes .ids i); named = λ u e. na .records i u .committed e; replayed = a i q })) a
+    (λ q. runs-replayed w (shardOf i) rn (record { sound = sound-of w c k i (f i q); own = ap shardOf (k .sizes .ids i); named = λ u e. na .records i u .committed e; replayed = a i q })) a
 replayed-kept w k na f lo (sent j d m at du) a = a
 replayed-kept w k na f lo (quiet q) a = λ s l. subst (Replayed w (shardOf s)) (sym (q .servers s)) (a s l)
 

@@ -1,35 +1,35 @@
 -- Each server's log is in the order of its dependencies, and runs keep it so. Assumes nothing.
 use mathlib.Core.Path.{_≡_, refl, sym, _∙_, ap, subst}
-use mathlib.Core.Logic.{_⊎_, inl, inr, _≢_}
+use mathlib.Core.Logic.{_⊎_, inl, inr}
 use mathlib.Core.Bool.{Bool, true, false, cond}
-use mathlib.Core.List.{List, [], _∷_, _++_, append-nil, List·Memᴰ, List·Memᴰ·head, List·Memᴰ·tail, List·Memᴰ·cases-cons, List·Memᴰ·not-nil, List·Memᴰ·append-cases, Memᴰ·append-left, Memᴰ·append-right, List·Memᴰ·eq-of-singleton}
+use mathlib.Core.List.{List, [], _∷_, _++_, List·Memᴰ, List·Memᴰ·head, List·Memᴰ·tail, List·Memᴰ·cases-cons, List·Memᴰ·not-nil, List·Memᴰ·append-cases, List·Memᴰ·eq-of-singleton}
 use Prim.Native.Nat.{ℕ, zero, suc, _≤_, _<_}
 use native.Mathlib.Omega.{arith}
 use lib.ListN.{length, getD, take}
-use Rattle.masks.specs.Bits.{In, has, union}
+use Rattle.masks.specs.Bits.{In, has}
 use Rattle.masks.proofs.Bools.{true-and-false}
-use Rattle.masks.proofs.Laws.{has-in, in-has, in-lt}
+use Rattle.masks.proofs.Laws.{has-in}
 use Rattle.graph.specs.Before.{Before}
 use Rattle.graph.specs.Walk.{rowsOf, firstReady, group}
-use Rattle.graph.proofs.Rows.{Words, trans}
-use Rattle.graph.proofs.Groups.{Kept, group-of}
-use Rattle.graph.proofs.NextGroups.{Runs, next-runs, next-lt}
+use Rattle.graph.proofs.Rows.{trans}
+use Rattle.graph.proofs.Groups.{group-of}
+use Rattle.graph.proofs.NextGroups.{next-runs}
 use Rattle.rules.specs.declared.MaybeSet.{MaybeSet}
 use Rattle.rules.specs.Flags.{there}
 use Rattle.server.specs.declared.Log.{Log}
 use Rattle.server.specs.declared.Server.{Server}
-use Rattle.server.specs.Held.{committedAt, committedWord, ranWord, entryAt}
-use Rattle.server.specs.Form.{logged, formed}
+use Rattle.server.specs.Held.{committedAt, committedWord, ranWord}
+use Rattle.server.specs.Form.{formed}
 use Rattle.server.specs.Run.{depsOf, nextRun, runGroup, turn, ranNone, run, turns, ranFrom, runAll}
-use Rattle.server.proofs.FormParts.{Formed, logged-some, some-logged, logged-committed}
+use Rattle.server.proofs.FormParts.{Formed, logged-some, some-logged}
 use Rattle.server.proofs.LogGrows.{Lined, logWord}
 use Rattle.server.proofs.RunGroups.{group-deps}
 use Rattle.server.proofs.RunTurns.{turns-keep}
-use Rattle.server.proofs.RunsOneByOne.{rising, Partway}
-use Rattle.server.proofs.RunKeepsForm.{Memory, Sound, logs-formed, next-committed, next-unrun, group-partway, group-sound, way, in-log, log-in, kept-after, group-committed, same-committed}
+use Rattle.server.proofs.RunsOneByOne.{rising}
+use Rattle.server.proofs.RunKeepsForm.{Memory, Sound, next-committed, next-unrun, group-sound, way, in-log, log-in, kept-after, same-committed}
 use Rattle.safety.specs.Orders.{entries, Earlier, first, later}
 use Rattle.safety.proofs.Lists.{earlier-fst, earlier-snd, earlier-nil, Split, earlier-split}
-use Rattle.safety.proofs.LogsInOrder.{InOrder, More, more-order}
+use Rattle.safety.proofs.LogsInOrder.{InOrder, more-order}
 
 -- ---- the numbers of a word, rising
 
@@ -130,7 +130,7 @@ module _ (z : Server) (h : Orderly z) where
   both-ways t u a b l =
       let r = next-runs (depsOf z) (M .words) (committedWord z) (ranWord z) t (has-in a) in
       go (group-of (depsOf z) (M .words) (firstReady (rowsOf (depsOf z)) (committedWord z) (ranWord z)) t (subst (λ w. In w t) (r .whole) (has-in a)))
-        (group-of (depsOf z) (M .words) (firstReady (rowsOf (depsOf z)) (committedWord z) (ranWord z)) u (subst (λ w. In w u) (r .whole) (has-in b)))
+      (group-of (depsOf z) (M .words) (firstReady (rowsOf (depsOf z)) (committedWord z) (ranWord z)) u (subst (λ w. In w u) (r .whole) (has-in b)))
     where
       L : ℕ
       L = firstReady (rowsOf (depsOf z)) (committedWord z) (ranWord z)
@@ -143,10 +143,11 @@ module _ (z : Server) (h : Orderly z) where
 
   order-more : InOrder (depsOf z) (Holds z) (entries (z .log) ++ rising (nextRun z) 64)
   order-more = record {
-      committed = λ t m. committed t (List·Memᴰ·append-cases (entries (z .log)) m);
-      before = before;
-      order = λ t u m b. order t u b (earlier-split (entries (z .log)) (rising (nextRun z) 64) m);
-      once = λ t m. once t (earlier-split (entries (z .log)) (rising (nextRun z) 64) m) }
+    committed = λ t m. committed t (List·Memᴰ·append-cases (entries (z .log)) m);
+    before = before;
+    order = λ t u m b. order t u b (earlier-split (entries (z .log)) (rising (nextRun z) 64) m);
+    once = λ t m. once t (earlier-split (entries (z .log)) (rising (nextRun z) 64) m);
+  }
     where
       committed : (t : ℕ) → List·Memᴰ t (entries (z .log)) ⊎ List·Memᴰ t (rising (nextRun z) 64) → Holds z t
       committed t (inl m) = h .order .committed t m
@@ -177,9 +178,10 @@ module _ (z : Server) (h : Orderly z) where
 
   pub group-orderly : Orderly Z′
   group-orderly = record {
-      sound = group-sound z (h .sound);
-      order = subst (InOrder (depsOf Z′) (Holds Z′)) (sym entries-more)
-        (more-order (record { still = λ t e. ap (λ (v : MaybeSet). there (v .some)) (same-committed z M F t) ∙ e; same = λ t e. ap (λ (d : List ℕ). getD d t 0) (group-deps z (nextRun z)) }) order-more) }
+    sound = group-sound z (h .sound);
+    order = subst (InOrder (depsOf Z′) (Holds Z′)) (sym entries-more)
+        (more-order (record { still = λ t e. ap (λ (v : MaybeSet). there (v .some)) (same-committed z M F t) ∙ e; same = λ t e. ap (λ (d : List ℕ). getD d t 0) (group-deps z (nextRun z)) }) order-more);
+  }
 
 pub run-orderly : (z : Server) → Orderly z → Orderly (run z .server)
 unfolding run turn

@@ -1,34 +1,31 @@
 -- A station that sends the message due keeps what is kept: a set that it proposes may be proposed, and one that it commits is chosen. Assumes nothing.
 use mathlib.Core.Path.{_≡_, refl, sym, _∙_, ap, subst}
-use mathlib.Core.Logic.{_⊎_, inl, inr, _≢_}
+use mathlib.Core.Logic.{_⊎_, inl, inr}
 use mathlib.Core.Bool.{Bool, true, false, cond, false≢true}
-use mathlib.Core.Option.{Option, none, some, Option·some-injective}
-use mathlib.Core.List.{List, [], _∷_, List·Memᴰ, List·Memᴰ·head, List·Memᴰ·tail, List·Memᴰ·cases-cons}
-use Prim.Native.Nat.{ℕ, _≤_, _<_}
+use mathlib.Core.Option.{some, Option·some-injective}
+use mathlib.Core.List.{_∷_, List·Memᴰ, List·Memᴰ·tail, List·Memᴰ·cases-cons}
+use Prim.Native.Nat.{ℕ, _≤_}
 use native.Mathlib.Omega.{arith}
 use native.Mathlib.Decide.{ℕ-discrete}
 use borrow.Author.Tests.{eqb-true, eqb-false}
 use lib.Dec.{eqb}
-use lib.ListN.{length}
 use Rattle.rules.specs.declared.Set.{Set}
 use Rattle.wire.specs.declared.Message.{Message}
 use Rattle.wire.specs.Codes.{Accept}
 use Rattle.wire.specs.Messages.{blank, prepare, preAccept, accept, commit}
 use Rattle.server.proofs.RunLeaves.{leaves-refl}
 use Rattle.drive.specs.declared.Drive.{Drive}
-use Rattle.drive.specs.declared.Sending.{Sending}
 use Rattle.drive.specs.Held.{touched}
 use Rattle.drive.specs.Form.{formed}
 use Rattle.drive.specs.Due.{dueMessage, serversOf, due}
 use Rattle.drive.proofs.FormParts.{formed-parts, phase-below}
-use Rattle.safety.specs.Cluster.{World, Cluster, asked, ballotOf}
-use Rattle.safety.proofs.Slice.{Slice}
-use Rattle.safety.proofs.Summary.{Step, Proposing}
+use Rattle.safety.specs.Cluster.{World, Cluster, asked}
+use Rattle.safety.proofs.Summary.{Step}
 use Rattle.safety.proofs.Agreement.{lawful-kept}
-use Rattle.safety.proofs.View.{Said, SaysAccept, CommitOf, sliceOf, touchedOf, NewSound, of-another, step-of}
+use Rattle.safety.proofs.View.{CommitOf, sliceOf, touchedOf, NewSound, of-another, step-of}
 use Rattle.safety.proofs.ServerStep.{moves-still, new-or-old}
 use Rattle.safety.proofs.DriveIn.{DriveIn}
-use Rattle.safety.proofs.Kept.{Sizes, Ballots, Kept, drive-stays}
+use Rattle.safety.proofs.Kept.{Kept, drive-stays}
 use Rattle.safety.proofs.ServersKeep.{still-kept}
 
 pub data Due (d : Drive) : Message → Type 0 where
@@ -42,7 +39,7 @@ unfolding dueMessage
 due-is d l = go (eqb (d .phase) 0) refl (eqb (d .phase) 1) refl (eqb (d .phase) 2) refl
   where
     go : (a : Bool) → eqb (d .phase) 0 ≡ a → (b : Bool) → eqb (d .phase) 1 ≡ b → (c : Bool) → eqb (d .phase) 2 ≡ c →
-      Due d (cond a (prepare (d .t) (d .ballot) (d .pieces)) (cond b (preAccept (d .t) (d .ballot) (d .pieces)) (cond c (accept (d .t) (d .ballot) (d .pieces) (d .chosen .set)) (commit (d .t) (d .pieces) (d .chosen .set)))))
+        Due d (cond a (prepare (d .t) (d .ballot) (d .pieces)) (cond b (preAccept (d .t) (d .ballot) (d .pieces)) (cond c (accept (d .t) (d .ballot) (d .pieces) (d .chosen .set)) (commit (d .t) (d .pieces) (d .chosen .set)))))
     go true e b e′ c e″ = duePrepare
     go false e true e′ c e″ = duePreAccept
     go false e false e′ true e″ = dueAccept (eqb-true (d .phase) 2 e″)
@@ -74,19 +71,37 @@ module _ (w : World) (c : Cluster) (j : ℕ) (d : Drive) (m : Message) (at : c .
 
   sound-here : {x : Message} → Due d x → x ≡ m → NewSound (touchedOf w (d .t)) (sliceOf c (d .t)) (sliceOf C′ (d .t)) (d .t) x
   sound-here duePrepare e = record {
-      accept = λ z n. absurd (omega arith); acceptOK = λ z n. absurd (omega arith); preAcceptOK = λ z n. absurd (omega arith); prepareOK = λ z n. absurd (omega arith); commit = λ z n. absurd (false≢true z) }
+    accept = λ z n. absurd (omega arith);
+    acceptOK = λ z n. absurd (omega arith);
+    preAcceptOK = λ z n. absurd (omega arith);
+    prepareOK = λ z n. absurd (omega arith);
+    commit = λ z n. absurd (false≢true z);
+  }
   sound-here duePreAccept e = record {
-      accept = λ z n. absurd (omega arith); acceptOK = λ z n. absurd (omega arith); preAcceptOK = λ z n. absurd (omega arith); prepareOK = λ z n. absurd (omega arith); commit = λ z n. absurd (false≢true z) }
+    accept = λ z n. absurd (omega arith);
+    acceptOK = λ z n. absurd (omega arith);
+    preAcceptOK = λ z n. absurd (omega arith);
+    prepareOK = λ z n. absurd (omega arith);
+    commit = λ z n. absurd (false≢true z);
+  }
   sound-here (dueAccept p) e = record {
-      accept = λ z n. record { sound = di .stage .proposed p; alone = λ v a. alone v (accept-or (d .t) (d .ballot) v a) };
-      acceptOK = λ z n. absurd (omega arith); preAcceptOK = λ z n. absurd (omega arith); prepareOK = λ z n. absurd (omega arith); commit = λ z n. absurd (false≢true z) }
+    accept = λ z n. record { sound = di .stage .proposed p; alone = λ v a. alone v (accept-or (d .t) (d .ballot) v a) };
+    acceptOK = λ z n. absurd (omega arith);
+    preAcceptOK = λ z n. absurd (omega arith);
+    prepareOK = λ z n. absurd (omega arith);
+    commit = λ z n. absurd (false≢true z);
+  }
     where
       alone : (v : Set) → sliceOf c (d .t) .Accept (d .ballot) v ⊎ ((d .phase ≡ 2) × (d .t ≡ d .t) × (d .ballot ≡ d .ballot) × (v ≡ d .chosen .set)) → v ≡ d .chosen .set
       alone v (inl a) = di .stage .alone p v a
       alone v (inr h) = h .3
   sound-here (dueCommit p) e = record {
-      accept = λ z n. absurd (omega arith); acceptOK = λ z n. absurd (omega arith); preAcceptOK = λ z n. absurd (omega arith); prepareOK = λ z n. absurd (omega arith);
-      commit = λ z n. inr (di .stage .chosen p) }
+    accept = λ z n. absurd (omega arith);
+    acceptOK = λ z n. absurd (omega arith);
+    preAcceptOK = λ z n. absurd (omega arith);
+    prepareOK = λ z n. absurd (omega arith);
+    commit = λ z n. inr (di .stage .chosen p);
+  }
 
   due-number : {x : Message} → Due d x → x .t ≡ d .t
   due-number duePrepare = refl
@@ -121,13 +136,15 @@ module _ (w : World) (c : Cluster) (j : ℕ) (d : Drive) (m : Message) (at : c .
 
   pub sent-kept : Kept w C′
   sent-kept = record {
-      sizes = record { ids = k .sizes .ids; records = k .sizes .records };
-      ballots = record {
-        took = k .ballots .took;
-        alone = k .ballots .alone;
-        proposed = λ t b v a. took t b v (accept-or t b v a) };
-      drives = λ i e q. drive-stays w c C′ e (step-sent (e .t)) (record { preAcceptOK = λ h. record { message = h .message; within = List·Memᴰ·tail (h .within); coded = h .coded; numbered = h .numbered; says = h .says } }) (own-proposal i e q) (k .drives i e q);
-      lawful = λ t. lawful-kept (step-sent t) (k .lawful t) }
+    sizes = record { ids = k .sizes .ids; records = k .sizes .records };
+    ballots = record {
+      took = k .ballots .took;
+      alone = k .ballots .alone;
+      proposed = λ t b v a. took t b v (accept-or t b v a);
+    };
+    drives = λ i e q. drive-stays w c C′ e (step-sent (e .t)) (record { preAcceptOK = λ h. record { message = h .message; within = List·Memᴰ·tail (h .within); coded = h .coded; numbered = h .numbered; says = h .says } }) (own-proposal i e q) (k .drives i e q);
+    lawful = λ t. lawful-kept (step-sent t) (k .lawful t);
+  }
     where
       took : (t b : ℕ) (v : Set) → sliceOf c t .Accept b v ⊎ ((d .phase ≡ 2) × (t ≡ d .t) × (b ≡ d .ballot) × (v ≡ d .chosen .set)) → List·Memᴰ (record { number = t; ballot = b }) (c .taken)
       took t b v (inl a) = k .ballots .proposed t b v a

@@ -1,9 +1,9 @@
 -- What a server does has a summary, whatever the number. Assumes nothing.
 use mathlib.Core.Path.{_≡_, refl, sym, _∙_, ap, subst}
 use mathlib.Core.Logic.{_⊎_, inl, inr, _≢_}
-use mathlib.Core.Bool.{Bool, true, false, true≢false, false≢true}
-use mathlib.Core.List.{List, [], _∷_, List·Memᴰ, List·Memᴰ·head, List·Memᴰ·tail, List·Memᴰ·cases-cons}
-use Prim.Native.Nat.{ℕ, _^_, _≤_, _<_}
+use mathlib.Core.Bool.{true, true≢false, false≢true}
+use mathlib.Core.List.{List, _∷_, List·Memᴰ, List·Memᴰ·tail, List·Memᴰ·cases-cons}
+use Prim.Native.Nat.{ℕ, _^_, _<_}
 use native.Mathlib.Omega.{arith}
 use native.Mathlib.Decide.{ℕ-discrete}
 use lib.Dec.{eqb}
@@ -15,25 +15,26 @@ use Rattle.rules.specs.declared.MaybeWord.{MaybeWord}
 use Rattle.rules.specs.declared.MaybeSet.{MaybeSet}
 use Rattle.rules.specs.Flags.{there}
 use Rattle.wire.specs.declared.Message.{Message}
-use Rattle.wire.specs.Codes.{Accept, AcceptOK, PreAcceptOK, PrepareOK, Commit, Done, commits}
+use Rattle.wire.specs.Codes.{Accept, AcceptOK, Commit, Done, commits}
 use Rattle.wire.specs.Messages.{prepareOK}
 use Rattle.server.specs.declared.Record.{Record}
 use Rattle.server.specs.declared.Changed.{Changed}
 use Rattle.server.specs.Held.{committedAt}
 use Rattle.server.proofs.Did.{Did, tells, isDone, preAcceptsFirst, preAcceptsAgain, accepts, prepares, commitsFirst, Open, Plain}
 use Rattle.safety.specs.Cluster.{World, Cluster, Reaches}
-use Rattle.safety.proofs.Slice.{Slice, Holds, Votes, Chosen}
-use Rattle.safety.proofs.Summary.{Voting, Preparing, Proposing, Step}
+use Rattle.safety.proofs.Slice.{Slice, Holds, Votes}
+use Rattle.safety.proofs.Summary.{Voting, Step}
 use Rattle.safety.proofs.View.{Said, SaysAcceptOK, recordOf, CommitOf, sliceOf, touchedOf, of-another, NewSound, RecordMoves, step-of}
 use Rattle.safety.proofs.Serving.{after, was-sent, Place, here, elsewhere, place, record-here}
 
 -- a record that stays
 pub moves-still : (c c′ : Cluster) (u s : ℕ) → recordOf c′ s u ≡ recordOf c s u → RecordMoves (sliceOf c u) (sliceOf c′ u) s
 moves-still c c′ u s e = record {
-    promise = let z = ap (λ (v : Record). v .promise) e in omega arith;
-    arrival = λ w h. subst (λ (a : MaybeWord). Holds a w) (ap (λ (v : Record). v .arrival) (sym e)) h;
-    fresh = λ w h. inl (subst (λ (a : MaybeWord). Holds a w) (ap (λ (v : Record). v .arrival) e) h);
-    accepted = inl (ap (λ (v : Record). v .accepted) e) }
+  promise = let z = ap (λ (v : Record). v .promise) e in omega arith;
+  arrival = λ w h. subst (λ (a : MaybeWord). Holds a w) (ap (λ (v : Record). v .arrival) (sym e)) h;
+  fresh = λ w h. inl (subst (λ (a : MaybeWord). Holds a w) (ap (λ (v : Record). v .arrival) e) h);
+  accepted = inl (ap (λ (v : Record). v .accepted) e);
+}
 
 pub held-still : (c c′ : Cluster) (u s : ℕ) (v : Set) → recordOf c′ s u ≡ recordOf c s u → committedAt (c′ .servers s) u ≡ true → recordOf c′ s u .committed .set ≡ v → CommitOf c u v
 held-still c c′ u s v e k z =
@@ -70,8 +71,11 @@ module _ (touched : ℕ) (c c′ : Cluster) (i w : ℕ) (wl : w < 2 ^ 64) (m : M
 
   voting : m .code ≡ Accept → Open R m → R′ .promise ≡ m .ballot → Votes (R′ .accepted) (m .ballot) (m .set) → Voting A A′ i (m .ballot) (m .set)
   voting k op p n = record {
-      low = op .low; promises = p; now = n;
-      asked = record { message = m; within = was-sent rs (λ z. omega arith) (λ z. omega arith); coded = k; numbered = refl; says = (refl, refl) } }
+    low = op .low;
+    promises = p;
+    now = n;
+    asked = record { message = m; within = was-sent rs (λ z. omega arith) (λ z. omega arith); coded = k; numbered = refl; says = (refl, refl) };
+  }
 
   same-arrival : R′ .arrival ≡ R .arrival → (w : ℕ) → Holds (R .arrival) w → Holds (R′ .arrival) w
   same-arrival e w h = subst (λ (a : MaybeWord). Holds a w) (sym e) h
@@ -85,30 +89,35 @@ module _ (touched : ℕ) (c c′ : Cluster) (i w : ℕ) (wl : w < 2 ^ 64) (m : M
   moves-here (tells r p) e = moves-still c c′ (m .t) i e
   moves-here (isDone h) e = moves-still c c′ (m .t) i e
   moves-here (preAcceptsFirst k op n) e = record {
-      promise = let z = ap (λ (v : Record). v .promise) e in omega (arith, op .low);
-      arrival = λ w h. absurd (true≢false (sym (h .some) ∙ n));
-      fresh = λ y h. inr (let z = sym (h .is) ∙ ap (λ (v : Record). v .arrival .word) e in subst (λ y. y < 2 ^ 64) (sym z) wl);
-      accepted = inl (ap (λ (v : Record). v .accepted) e) }
+    promise = let z = ap (λ (v : Record). v .promise) e in omega (arith, op .low);
+    arrival = λ w h. absurd (true≢false (sym (h .some) ∙ n));
+    fresh = λ y h. inr (let z = sym (h .is) ∙ ap (λ (v : Record). v .arrival .word) e in subst (λ y. y < 2 ^ 64) (sym z) wl);
+    accepted = inl (ap (λ (v : Record). v .accepted) e);
+  }
   moves-here (preAcceptsAgain k op n) e = record {
-      promise = let z = ap (λ (v : Record). v .promise) e in omega (arith, op .low);
-      arrival = same-arrival (ap (λ (v : Record). v .arrival) e);
-      fresh = λ w h. inl (same-arrived (ap (λ (v : Record). v .arrival) e) w h);
-      accepted = inl (ap (λ (v : Record). v .accepted) e) }
+    promise = let z = ap (λ (v : Record). v .promise) e in omega (arith, op .low);
+    arrival = same-arrival (ap (λ (v : Record). v .arrival) e);
+    fresh = λ w h. inl (same-arrived (ap (λ (v : Record). v .arrival) e) w h);
+    accepted = inl (ap (λ (v : Record). v .accepted) e);
+  }
   moves-here (accepts k op) e = record {
-      promise = let z = ap (λ (v : Record). v .promise) e in omega (arith, op .low);
-      arrival = same-arrival (ap (λ (v : Record). v .arrival) e);
-      fresh = λ w h. inl (same-arrived (ap (λ (v : Record). v .arrival) e) w h);
-      accepted = inr (m .ballot, m .set, voting k op (ap (λ (v : Record). v .promise) e) (subst (λ (v : Record). Votes (v .accepted) (m .ballot) (m .set)) (sym e) (record { some = refl; at = refl; is = refl }))) }
+    promise = let z = ap (λ (v : Record). v .promise) e in omega (arith, op .low);
+    arrival = same-arrival (ap (λ (v : Record). v .arrival) e);
+    fresh = λ w h. inl (same-arrived (ap (λ (v : Record). v .arrival) e) w h);
+    accepted = inr (m .ballot, m .set, voting k op (ap (λ (v : Record). v .promise) e) (subst (λ (v : Record). Votes (v .accepted) (m .ballot) (m .set)) (sym e) (record { some = refl; at = refl; is = refl })));
+  }
   moves-here (prepares k op) e = record {
-      promise = let z = ap (λ (v : Record). v .promise) e in omega (arith, op .low);
-      arrival = same-arrival (ap (λ (v : Record). v .arrival) e);
-      fresh = λ w h. inl (same-arrived (ap (λ (v : Record). v .arrival) e) w h);
-      accepted = inl (ap (λ (v : Record). v .accepted) e) }
+    promise = let z = ap (λ (v : Record). v .promise) e in omega (arith, op .low);
+    arrival = same-arrival (ap (λ (v : Record). v .arrival) e);
+    fresh = λ w h. inl (same-arrived (ap (λ (v : Record). v .arrival) e) w h);
+    accepted = inl (ap (λ (v : Record). v .accepted) e);
+  }
   moves-here (commitsFirst k n) e = record {
-      promise = let z = ap (λ (v : Record). v .promise) e in omega arith;
-      arrival = same-arrival (ap (λ (v : Record). v .arrival) e);
-      fresh = λ w h. inl (same-arrived (ap (λ (v : Record). v .arrival) e) w h);
-      accepted = inl (ap (λ (v : Record). v .accepted) e) }
+    promise = let z = ap (λ (v : Record). v .promise) e in omega arith;
+    arrival = same-arrival (ap (λ (v : Record). v .arrival) e);
+    fresh = λ w h. inl (same-arrived (ap (λ (v : Record). v .arrival) e) w h);
+    accepted = inl (ap (λ (v : Record). v .accepted) e);
+  }
 
   still-open : {A : Type 0} → R′ .committed ≡ R .committed → Open R m → committedAt (c′ .servers i) (m .t) ≡ true → A
   still-open e op k = absurd (true≢false (sym k ∙ ap (λ (r : MaybeSet). there (r .some)) e ∙ op .uncommitted))
@@ -127,60 +136,68 @@ module _ (touched : ℕ) (c c′ : Cluster) (i w : ℕ) (wl : w < 2 ^ 64) (m : M
 
   reply-sound : {o : Changed} → Did i w R m o → R′ ≡ o .after → c′ .sent ≡ o .reply ∷ c .sent → NewSound touched A A′ (m .t) (o .reply)
   reply-sound (tells r p) e z = record {
-      accept = λ k n. absurd (omega (arith, p .above));
-      acceptOK = λ k n. absurd (omega (arith, p .above));
-      preAcceptOK = λ k n. absurd (omega (arith, p .above));
-      prepareOK = λ k n. absurd (p .notPrepareOK k);
-      commit = λ k n. absurd (plain-commit r p k) }
+    accept = λ k n. absurd (omega (arith, p .above));
+    acceptOK = λ k n. absurd (omega (arith, p .above));
+    preAcceptOK = λ k n. absurd (omega (arith, p .above));
+    prepareOK = λ k n. absurd (p .notPrepareOK k);
+    commit = λ k n. absurd (plain-commit r p k);
+  }
   reply-sound (isDone h) e z = record {
-      accept = λ k n. absurd (omega arith);
-      acceptOK = λ k n. absurd (omega arith);
-      preAcceptOK = λ k n. absurd (omega arith);
-      prepareOK = λ k n. absurd (omega arith);
-      commit = λ k n. inl (CommitOf.held i h refl) }
+    accept = λ k n. absurd (omega arith);
+    acceptOK = λ k n. absurd (omega arith);
+    preAcceptOK = λ k n. absurd (omega arith);
+    prepareOK = λ k n. absurd (omega arith);
+    commit = λ k n. inl (CommitOf.held i h refl);
+  }
   reply-sound (preAcceptsFirst k op n) e z = record {
-      accept = λ k n. absurd (omega arith);
-      acceptOK = λ k n. absurd (omega arith);
-      preAcceptOK = λ k n. subst (λ (v : Record). Holds (v .arrival) w) (sym e) (record { some = refl; is = refl });
-      prepareOK = λ k n. absurd (omega arith);
-      commit = λ k n. absurd (false≢true k) }
+    accept = λ k n. absurd (omega arith);
+    acceptOK = λ k n. absurd (omega arith);
+    preAcceptOK = λ k n. subst (λ (v : Record). Holds (v .arrival) w) (sym e) (record { some = refl; is = refl });
+    prepareOK = λ k n. absurd (omega arith);
+    commit = λ k n. absurd (false≢true k);
+  }
   reply-sound (preAcceptsAgain k op n) e z = record {
-      accept = λ k n. absurd (omega arith);
-      acceptOK = λ k n. absurd (omega arith);
-      preAcceptOK = λ k q. subst (λ (v : Record). Holds (v .arrival) (R .arrival .word)) (sym e) (record { some = n; is = refl });
-      prepareOK = λ k n. absurd (omega arith);
-      commit = λ k n. absurd (false≢true k) }
+    accept = λ k n. absurd (omega arith);
+    acceptOK = λ k n. absurd (omega arith);
+    preAcceptOK = λ k q. subst (λ (v : Record). Holds (v .arrival) (R .arrival .word)) (sym e) (record { some = n; is = refl });
+    prepareOK = λ k n. absurd (omega arith);
+    commit = λ k n. absurd (false≢true k);
+  }
   reply-sound (accepts k op) e z = record {
-      accept = λ k n. absurd (omega arith);
-      acceptOK = λ y n. (m .set, voting k op (ap (λ (v : Record). v .promise) e) (subst (λ (v : Record). Votes (v .accepted) (m .ballot) (m .set)) (sym e) (record { some = refl; at = refl; is = refl })));
-      preAcceptOK = λ k n. absurd (omega arith);
-      prepareOK = λ k n. absurd (omega arith);
-      commit = λ k n. absurd (false≢true k) }
+    accept = λ k n. absurd (omega arith);
+    acceptOK = λ y n. (m .set, voting k op (ap (λ (v : Record). v .promise) e) (subst (λ (v : Record). Votes (v .accepted) (m .ballot) (m .set)) (sym e) (record { some = refl; at = refl; is = refl })));
+    preAcceptOK = λ k n. absurd (omega arith);
+    prepareOK = λ k n. absurd (omega arith);
+    commit = λ k n. absurd (false≢true k);
+  }
   reply-sound (prepares k op) e z = record {
-      accept = λ k n. absurd (omega arith);
-      acceptOK = λ k n. absurd (omega arith);
-      preAcceptOK = λ k n. absurd (omega arith);
-      prepareOK = λ y n. record { low = op .low; promises = ap (λ (v : Record). v .promise) e; arrived = refl; held = refl; quiet = λ b h. quiet b h (List·Memᴰ·cases-cons (subst (List·Memᴰ (h .message)) z (h .within))) };
-      commit = λ k n. absurd (false≢true k) }
+    accept = λ k n. absurd (omega arith);
+    acceptOK = λ k n. absurd (omega arith);
+    preAcceptOK = λ k n. absurd (omega arith);
+    prepareOK = λ y n. record { low = op .low; promises = ap (λ (v : Record). v .promise) e; arrived = refl; held = refl; quiet = λ b h. quiet b h (List·Memᴰ·cases-cons (subst (List·Memᴰ (h .message)) z (h .within))) };
+    commit = λ k n. absurd (false≢true k);
+  }
     where
       quiet : (b : ℕ) (h : Said (c′ .sent) (m .t) AcceptOK (SaysAcceptOK i b)) → (h .message ≡ prepareOK (m .t) i (m .ballot) (R .arrival) (R .accepted)) ⊎ List·Memᴰ (h .message) (c .sent) → Said (c .sent) (m .t) AcceptOK (SaysAcceptOK i b)
       quiet b h (inl q) = absurd (omega (arith, h .coded, ap (λ (m : Message). m .code) q))
       quiet b h (inr q) = record { message = h .message; within = q; coded = h .coded; numbered = h .numbered; says = h .says }
   reply-sound (commitsFirst k n) e z = record {
-      accept = λ k n. absurd (omega arith);
-      acceptOK = λ k n. absurd (omega arith);
-      preAcceptOK = λ k n. absurd (omega arith);
-      prepareOK = λ k n. absurd (omega arith);
-      commit = λ k n. absurd (false≢true k) }
+    accept = λ k n. absurd (omega arith);
+    acceptOK = λ k n. absurd (omega arith);
+    preAcceptOK = λ k n. absurd (omega arith);
+    prepareOK = λ k n. absurd (omega arith);
+    commit = λ k n. absurd (false≢true k);
+  }
 
 -- an answer is of its message's number, or rests on nothing
 reply-other : (touched i w : ℕ) (v : Record) (m : Message) {o : Changed} → Did i w v m o → (a a′ : Slice) (u : ℕ) → u ≢ m .t → NewSound touched a a′ u (o .reply)
 reply-other touched i w v m (tells r p) a a′ u n = record {
-    accept = λ k n. absurd (omega (arith, p .above));
-    acceptOK = λ k n. absurd (omega (arith, p .above));
-    preAcceptOK = λ k n. absurd (omega (arith, p .above));
-    prepareOK = λ k n. absurd (p .notPrepareOK k);
-    commit = λ k n. absurd (plain-commit r p k) }
+  accept = λ k n. absurd (omega (arith, p .above));
+  acceptOK = λ k n. absurd (omega (arith, p .above));
+  preAcceptOK = λ k n. absurd (omega (arith, p .above));
+  prepareOK = λ k n. absurd (p .notPrepareOK k);
+  commit = λ k n. absurd (plain-commit r p k);
+}
 reply-other touched i w v m (isDone h) a a′ u n = of-another touched a a′ u _ (λ e. n (sym e))
 reply-other touched i w v m (preAcceptsFirst k op h) a a′ u n = of-another touched a a′ u _ (λ e. n (sym e))
 reply-other touched i w v m (preAcceptsAgain k op h) a a′ u n = of-another touched a a′ u _ (λ e. n (sym e))

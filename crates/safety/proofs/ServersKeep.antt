@@ -2,8 +2,8 @@
 use mathlib.Core.Path.{_≡_, refl, sym, _∙_, ap, subst}
 use mathlib.Core.Logic.{_⊎_, inl, inr, _≢_}
 use mathlib.Core.Bool.{Bool, true, false, cond}
-use mathlib.Core.List.{List, [], _∷_, List·Memᴰ, List·Memᴰ·tail, List·Memᴰ·cases-cons}
-use Prim.Native.Nat.{ℕ, _^_, _≤_, _<_}
+use mathlib.Core.List.{_∷_, List·Memᴰ, List·Memᴰ·tail, List·Memᴰ·cases-cons}
+use Prim.Native.Nat.{ℕ, _^_, _<_}
 use native.Mathlib.Omega.{arith}
 use lib.ListN.{length, length-set}
 use lib.Pow.{pow-pos}
@@ -25,12 +25,12 @@ use Rattle.server.proofs.Passed.{Passed, number-below}
 use Rattle.server.proofs.Did.{Did, tells, isDone, preAcceptsFirst, preAcceptsAgain, accepts, prepares, commitsFirst}
 use Rattle.server.proofs.RunLeaves.{SameHeld, Leaves, leaves-refl}
 use Rattle.safety.specs.Cluster.{World, Cluster, put, answered, ran, Reaches}
-use Rattle.safety.proofs.Slice.{Slice, Holds}
+use Rattle.safety.proofs.Slice.{Holds}
 use Rattle.safety.proofs.Summary.{Step}
-use Rattle.safety.proofs.View.{Said, SaysAccept, recordOf, CommitOf, sliceOf, touchedOf, step-of, put-same, put-all}
-use Rattle.safety.proofs.Serving.{withServer, after, Outcome, refuses, takes, outcome}
+use Rattle.safety.proofs.View.{Said, SaysAccept, recordOf, CommitOf, sliceOf, touchedOf, step-of, put-all}
+use Rattle.safety.proofs.Serving.{after, Outcome, refuses, takes, outcome}
 use Rattle.safety.proofs.ServerStep.{server-step}
-use Rattle.safety.proofs.Kept.{Sizes, Kept, Grows, quiet-kept}
+use Rattle.safety.proofs.Kept.{Sizes, Kept, quiet-kept}
 
 -- ---- where the records stay, but for their results, and nothing is sent
 
@@ -50,7 +50,8 @@ module _ (w : World) (c c′ : Cluster) (same : (s u : ℕ) → SameHeld (record
         promise = let e = same s t .promise in omega arith;
         arrival = λ x h. subst (λ (a : MaybeWord). Holds a x) (sym (same s t .arrival)) h;
         fresh = λ x h. inl (subst (λ (a : MaybeWord). Holds a x) (same s t .arrival) h);
-        accepted = inl (same s t .accepted) })
+        accepted = inl (same s t .accepted);
+      })
       (λ m k. subst (List·Memᴰ m) (sym sent) k)
       (λ m k. inl (old-message m k))
       (λ s v k e. inl (CommitOf.held s (ap (λ (x : MaybeSet). there (x .some)) (sym (same s t .committed)) ∙ k) (ap (λ (x : MaybeSet). x .set) (sym (same s t .committed)) ∙ e)))
@@ -66,8 +67,9 @@ module _ (w : World) (c c′ : Cluster) (i : ℕ) (z : Server) (lv : Leaves (c .
 
   leaves-sizes : Sizes c → Sizes c′
   leaves-sizes sz = record {
-      ids = λ s. subst (λ (f : ℕ → Server). f s .id ≡ s) (sym es) (put-all (λ s (x : Server). x .id ≡ s) (c .servers) i z (lv .id ∙ sz .ids i) (sz .ids) s);
-      records = λ s. subst (λ (f : ℕ → Server). length (f s .records) ≡ 64) (sym es) (put-all (λ s (x : Server). length (x .records) ≡ 64) (c .servers) i z (lv .size ∙ sz .records i) (sz .records) s) }
+    ids = λ s. subst (λ (f : ℕ → Server). f s .id ≡ s) (sym es) (put-all (λ s (x : Server). x .id ≡ s) (c .servers) i z (lv .id ∙ sz .ids i) (sz .ids) s);
+    records = λ s. subst (λ (f : ℕ → Server). length (f s .records) ≡ 64) (sym es) (put-all (λ s (x : Server). length (x .records) ≡ 64) (c .servers) i z (lv .size ∙ sz .records i) (sz .records) s);
+  }
 
   pub leaves-kept : c′ .stations ≡ c .stations → c′ .taken ≡ c .taken → c′ .sent ≡ c .sent → Kept w c → Kept w c′
   leaves-kept e1 e2 e3 k = still-kept w c c′ leaves-same e3 e1 e2 (leaves-sizes (k .sizes)) k
@@ -104,7 +106,8 @@ module _ (w : World) (c : Cluster) (i : ℕ) (m : Message) (rs : Reaches c m) (k
       (λ t b v a. before t b v a (List·Memᴰ·cases-cons (a .within)))
       (record {
         ids = put-all (λ s (x : Server). x .id ≡ s) (c .servers) i _ (k .sizes .ids i) (k .sizes .ids);
-        records = put-all (λ s (x : Server). length (x .records) ≡ 64) (c .servers) i _ (length-set (c .servers i .records) (m .t) (o .after) ∙ k .sizes .records i) (k .sizes .records) })
+        records = put-all (λ s (x : Server). length (x .records) ≡ 64) (c .servers) i _ (length-set (c .servers i .records) (m .t) (o .after) ∙ k .sizes .records i) (k .sizes .records);
+      })
       k
     where
       small : m .t < length (c .servers i .records)

@@ -1,7 +1,7 @@
 -- One number's part of a cluster: what each server holds for it, and what was sent of it.
 -- The facts below speak of arrival words, which never change once they are there, and of what was sent, which only grows.
 use mathlib.Core.Path.{_≡_}
-use mathlib.Core.Bool.{Bool, true, false}
+use mathlib.Core.Bool.{true, false}
 use Prim.Native.Nat.{ℕ, _^_, _≤_, _<_}
 use Rattle.masks.specs.Bits.{In, has}
 use Rattle.rules.specs.declared.Set.{Set}

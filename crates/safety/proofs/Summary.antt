@@ -51,10 +51,11 @@ module _ {touched : ℕ} {c c′ : Slice} (st : Step touched c c′) where
 
   pub covers-stays : {v : Set} → Covers touched c v → Covers touched c′ v
   covers-stays h = record {
-      parts = λ k t. maj-map (part-stays _) (h .parts k t);
-      fixed = λ k t w f. h .fixed k t w (λ s w′ i a. f s w′ i (st .arrival-stays s w′ a));
-      outside = h .outside;
-      fits = h .fits }
+    parts = λ k t. maj-map (part-stays _) (h .parts k t);
+    fixed = λ k t w f. h .fixed k t w (λ s w′ i a. f s w′ i (st .arrival-stays s w′ a));
+    outside = h .outside;
+    fits = h .fits;
+  }
 
   pub unanimous-stays : {v : Set} → Unanimous touched c v → Unanimous touched c′ v
   unanimous-stays h = record { each = λ k t. all-map (λ s a. st .arrival-stays s _ a) (h .each k t); outside = h .outside }

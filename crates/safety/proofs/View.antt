@@ -1,13 +1,12 @@
 -- The cluster seen from one number, and a step's summary made of what the step did to the records and of the one message that it sent.
 -- Assumes nothing.
-use mathlib.Core.Path.{_≡_, refl, sym, _∙_, ap, subst}
+use mathlib.Core.Path.{_≡_, refl, sym, subst}
 use mathlib.Core.Logic.{_⊎_, inl, inr, _≢_}
-use mathlib.Core.Bool.{Bool, true, false}
-use mathlib.Core.List.{List, [], _∷_, List·Memᴰ, List·Memᴰ·head, List·Memᴰ·tail, List·Memᴰ·cases-cons}
+use mathlib.Core.Bool.{true}
+use mathlib.Core.List.{List, List·Memᴰ}
 use Prim.Native.Nat.{ℕ, _^_, _≤_, _<_}
 use native.Mathlib.Decide.{ℕ-discrete}
 use borrow.Author.Tests.{eq-eqb, ne-eqb}
-use lib.Dec.{eqb}
 use Rattle.rules.specs.declared.Set.{Set}
 use Rattle.rules.specs.declared.MaybeWord.{MaybeWord}
 use Rattle.rules.specs.declared.MaybeVote.{MaybeVote}
@@ -17,7 +16,7 @@ use Rattle.wire.specs.Codes.{Accept, AcceptOK, PreAcceptOK, PrepareOK, commits}
 use Rattle.server.specs.declared.Record.{Record}
 use Rattle.server.specs.Held.{recordAt, committedAt}
 use Rattle.safety.specs.Cluster.{World, Cluster, put}
-use Rattle.safety.proofs.Slice.{Slice, Holds, Votes, Chosen}
+use Rattle.safety.proofs.Slice.{Slice, Holds, Chosen}
 use Rattle.safety.proofs.Summary.{Voting, Preparing, Proposing, Step}
 
 -- a message of t with this code is in l, and says P
@@ -53,14 +52,15 @@ pub data CommitOf (c : Cluster) (t : ℕ) (v : Set) : Type 0 where
 
 abbrev pub sliceOf : Cluster → ℕ → Slice
 sliceOf c t = record {
-    promise = λ s. recordOf c s t .promise;
-    arrival = λ s. recordOf c s t .arrival;
-    accepted = λ s. recordOf c s t .accepted;
-    Accept = λ b v. Said (c .sent) t Accept (SaysAccept b v);
-    AcceptOK = λ s b. Said (c .sent) t AcceptOK (SaysAcceptOK s b);
-    PreAcceptOK = λ s w. Said (c .sent) t PreAcceptOK (SaysPreAcceptOK s w);
-    PrepareOK = λ s b a o. Said (c .sent) t PrepareOK (SaysPrepareOK s b a o);
-    Commit = CommitOf c t }
+  promise = λ s. recordOf c s t .promise;
+  arrival = λ s. recordOf c s t .arrival;
+  accepted = λ s. recordOf c s t .accepted;
+  Accept = λ b v. Said (c .sent) t Accept (SaysAccept b v);
+  AcceptOK = λ s b. Said (c .sent) t AcceptOK (SaysAcceptOK s b);
+  PreAcceptOK = λ s w. Said (c .sent) t PreAcceptOK (SaysPreAcceptOK s w);
+  PrepareOK = λ s b a o. Said (c .sent) t PrepareOK (SaysPrepareOK s b a o);
+  Commit = CommitOf c t;
+}
 
 -- the shards that t touches
 abbrev pub touchedOf : World → ℕ → ℕ
@@ -77,11 +77,12 @@ pub record NewSound (touched : ℕ) (a a′ : Slice) (t : ℕ) (m : Message) : T
 -- a message of another number
 pub of-another : (touched : ℕ) (a a′ : Slice) (t : ℕ) (m : Message) → m .t ≢ t → NewSound touched a a′ t m
 of-another touched a a′ t m n = record {
-    accept = λ k e. absurd (n e);
-    acceptOK = λ k e. absurd (n e);
-    preAcceptOK = λ k e. absurd (n e);
-    prepareOK = λ k e. absurd (n e);
-    commit = λ k e. absurd (n e) }
+  accept = λ k e. absurd (n e);
+  acceptOK = λ k e. absurd (n e);
+  preAcceptOK = λ k e. absurd (n e);
+  prepareOK = λ k e. absurd (n e);
+  commit = λ k e. absurd (n e);
+}
 
 -- what became of a server's record of t
 pub record RecordMoves (a a′ : Slice) (s : ℕ) : Type 0 where
@@ -98,24 +99,25 @@ module _ (touched : ℕ) (c c′ : Cluster) (t : ℕ) where
   A′ = sliceOf c′ t
 
   pub step-of :
-    ((s : ℕ) → RecordMoves A A′ s) →
-    ((m : Message) → List·Memᴰ m (c .sent) → List·Memᴰ m (c′ .sent)) →
-    ((m : Message) → List·Memᴰ m (c′ .sent) → List·Memᴰ m (c .sent) ⊎ NewSound touched A A′ t m) →
-    ((s : ℕ) (v : Set) → committedAt (c′ .servers s) t ≡ true → recordOf c′ s t .committed .set ≡ v → A .Commit v ⊎ Chosen touched A v) →
-    Step touched A A′
+      ((s : ℕ) → RecordMoves A A′ s) →
+      ((m : Message) → List·Memᴰ m (c .sent) → List·Memᴰ m (c′ .sent)) →
+      ((m : Message) → List·Memᴰ m (c′ .sent) → List·Memᴰ m (c .sent) ⊎ NewSound touched A A′ t m) →
+      ((s : ℕ) (v : Set) → committedAt (c′ .servers s) t ≡ true → recordOf c′ s t .committed .set ≡ v → A .Commit v ⊎ Chosen touched A v) →
+      Step touched A A′
   step-of records keep new committed = record {
-      promise-le = λ s. records s .promise;
-      arrival-stays = λ s. records s .arrival;
-      arrival-new = λ s. records s .fresh;
-      accepted-moves = λ s. records s .accepted;
-      accept-stays = again;
-      acceptOK-stays = again;
-      prepareOK-stays = again;
-      accept-new = λ b v k. accepts b v k (new _ (k .within));
-      acceptOK-new = λ s b k. acceptOKs s b k (new _ (k .within));
-      preAcceptOK-new = λ s w k. preAcceptOKs s w k (new _ (k .within));
-      prepareOK-new = λ s b a o k. prepareOKs s b a o k (new _ (k .within));
-      commit-new = commits-new }
+    promise-le = λ s. records s .promise;
+    arrival-stays = λ s. records s .arrival;
+    arrival-new = λ s. records s .fresh;
+    accepted-moves = λ s. records s .accepted;
+    accept-stays = again;
+    acceptOK-stays = again;
+    prepareOK-stays = again;
+    accept-new = λ b v k. accepts b v k (new _ (k .within));
+    acceptOK-new = λ s b k. acceptOKs s b k (new _ (k .within));
+    preAcceptOK-new = λ s w k. preAcceptOKs s w k (new _ (k .within));
+    prepareOK-new = λ s b a o k. prepareOKs s b a o k (new _ (k .within));
+    commit-new = commits-new;
+  }
     where
       again : {k : ℕ} {P : Message → Type 0} → Said (c .sent) t k P → Said (c′ .sent) t k P
       again h = record { message = h .message; within = keep _ (h .within); coded = h .coded; numbered = h .numbered; says = h .says }
@@ -138,11 +140,11 @@ module _ (touched : ℕ) (c c′ : Cluster) (t : ℕ) where
       prepareOKs : (s b : ℕ) (a : MaybeWord) (o : MaybeVote) (h : Said (c′ .sent) t PrepareOK (SaysPrepareOK s b a o)) → List·Memᴰ (h .message) (c .sent) ⊎ NewSound touched A A′ t (h .message) → A .PrepareOK s b a o ⊎ Preparing A A′ s b a o
       prepareOKs s b a o h (inl m) = inl (old h m)
       prepareOKs s b a o h (inr n) = inr
-        (subst (λ s. Preparing A A′ s b a o) (h .says .server)
-        (subst (λ b. Preparing A A′ (h .message .server) b a o) (h .says .ballot)
-        (subst (λ a. Preparing A A′ (h .message .server) (h .message .ballot) a o) (h .says .arrival)
-        (subst (λ o. Preparing A A′ (h .message .server) (h .message .ballot) (h .message .arrival) o) (h .says .accepted)
-        (n .prepareOK (h .coded) (h .numbered))))))
+          (subst (λ s. Preparing A A′ s b a o) (h .says .server)
+          (subst (λ b. Preparing A A′ (h .message .server) b a o) (h .says .ballot)
+          (subst (λ a. Preparing A A′ (h .message .server) (h .message .ballot) a o) (h .says .arrival)
+          (subst (λ o. Preparing A A′ (h .message .server) (h .message .ballot) (h .message .arrival) o) (h .says .accepted)
+          (n .prepareOK (h .coded) (h .numbered))))))
 
       by-sent : (v : Set) (m : Message) → commits (m .code) ≡ true → m .t ≡ t → m .set ≡ v → List·Memᴰ m (c .sent) ⊎ NewSound touched A A′ t m → A .Commit v ⊎ Chosen touched A v
       by-sent v m k n e (inl h) = inl (CommitOf.sent m h k n e)

@@ -1,7 +1,7 @@
 -- A server that answered AcceptOK at a ballot holds something accepted at that ballot or a higher one, and it was asked to. Assumes nothing.
-use mathlib.Core.Path.{_≡_, refl, sym, _∙_, ap, subst}
+use mathlib.Core.Path.{_≡_, sym, subst}
 use mathlib.Core.Logic.{_⊎_, inl, inr}
-use Prim.Native.Nat.{ℕ, _≤_, _<_}
+use Prim.Native.Nat.{ℕ, _≤_}
 use native.Mathlib.Omega.{arith}
 use Rattle.rules.specs.declared.Set.{Set}
 use Rattle.rules.specs.declared.MaybeVote.{MaybeVote}

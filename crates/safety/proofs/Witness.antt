@@ -4,7 +4,6 @@ use mathlib.Core.Path.{_≡_, refl, sym}
 use mathlib.Core.Bool.{Bool, true, false, true≢false}
 use mathlib.Core.Option.{Option, none, some, Option·getD}
 use mathlib.Core.List.{List, [], _∷_, _++_}
-use Prim.Native.Nat.{ℕ}
 use lib.IntN.{pos}
 use lib.ListN.{replicate}
 use Rattle.rules.specs.declared.Pieces.{Pieces}
@@ -14,7 +13,7 @@ use Rattle.server.specs.Held.{arrivedAt, committedAt}
 use Rattle.cases.specs.Computes.{computes}
 use Rattle.safety.specs.Orders.{entries, listed, noting, firsts}
 use Rattle.safety.specs.Cluster as C
-use Rattle.safety.specs.Cluster.{World, Cluster, Taken, atFirst, Reached, fresh}
+use Rattle.safety.specs.Cluster.{World, Cluster, atFirst, Reached, fresh}
 use Rattle.safety.specs.Statements.{logOf}
 use Rattle.safety.proofs.Scripts.{Event, takes, runs, runsOut, sends, hears, movesOn, starts, recovers, vanishes, sentAs, wasSent, isTaken, onlyIf, withDrive, begins, after, onward, play, played}
 

@@ -1,4 +1,4 @@
--- The cluster of demand 3: twelve servers, stations that hold at most one live drive each, the ballots taken, and all that was sent.
+-- The cluster of demand 3: its servers, stations that hold at most one live drive each, the ballots taken, and all that was sent.
 -- Each step is a definition of the server or the drive. A refused step changes nothing and sends nothing, as if its message were lost.
 use Prim.Native.Nat.{ℕ, _<_}
 use mathlib.Core.Path.{_≡_}
@@ -8,7 +8,7 @@ use lib.Dec.{eqb}
 use lib.ListN.{length}
 use Rattle.rules.specs.declared.Pieces.{Pieces}
 use Rattle.rules.specs.Choice.{_if_else_}
-use Rattle.rules.specs.Cluster.{shardOf}
+use Rattle.rules.specs.Cluster.{SERVERS, KEYS, shardOf}
 use Rattle.wire.specs.declared.Message.{Message}
 use Rattle.wire.specs.Messages.{inquire, fetch}
 use Rattle.counters.specs.declared.Counters.{Counters}
@@ -31,8 +31,8 @@ use Rattle.safety.specs.Orders.{entries, firsts}
 pub record World : Type 0 where
   pub pieces : ℕ → Pieces
   pub counters : ℕ → Counters
-  -- the type of the sixteen counters
-  pub sixteen : (k : ℕ) → length (counters k .list) ≡ 16
+  -- as many as a shard has: what the type of the counters says
+  pub sixteen : (k : ℕ) → length (counters k .list) ≡ KEYS
 
 -- ---- what there is at each time
 
@@ -112,9 +112,9 @@ Unused c r = r .refusal ≡ 0 → List·Memᴰ (ballotOf (r .drive)) (c .taken) 
 -- ---- the steps
 
 pub data Next (w : World) (c : Cluster) : Cluster → Type 0 where
-  takes : (i : ℕ) (m : Message) → i < 12 → Reaches c m → Next w c (answered c i (serve (c .servers i) m))
-  runs : (i : ℕ) → i < 12 → Next w c (ran c i (run (c .servers i)))
-  runsOut : (i : ℕ) → i < 12 → Next w c (ran c i (runAll (c .servers i)))
+  takes : (i : ℕ) (m : Message) → i < SERVERS → Reaches c m → Next w c (answered c i (serve (c .servers i) m))
+  runs : (i : ℕ) → i < SERVERS → Next w c (ran c i (run (c .servers i)))
+  runsOut : (i : ℕ) → i < SERVERS → Next w c (ran c i (runAll (c .servers i)))
   sends : (j : ℕ) (d : Drive) → c .stations j ≡ some d → Next w c (asked c (due d))
   hears : (j : ℕ) (d : Drive) (m : Message) → c .stations j ≡ some d → List·Memᴰ m (c .sent) → Next w c (moved c j (hear d m))
   movesOn : (j : ℕ) (d : Drive) → c .stations j ≡ some d → Next w c (moved c j (moveOn d))

@@ -1,12 +1,11 @@
 -- What a server does with a message that it takes, case by case. Assumes nothing.
-use mathlib.Core.Path.{_≡_, refl, sym, _∙_, ap}
+use mathlib.Core.Path.{_≡_, refl}
 use mathlib.Core.Logic.{_≢_}
-use mathlib.Core.Bool.{Bool, true, false, not, cond, _&&_, _||_}
+use mathlib.Core.Bool.{Bool, true, false, cond}
 use Prim.Native.Nat.{ℕ, _≤_, _<_}
 use native.Mathlib.Omega.{arith}
 use lib.Dec.{eqb, ltb, lit<}
 use borrow.Author.Tests.{eqb-true, ltb-false}
-use Rattle.rules.specs.Choice.{_if_else_}
 use Rattle.rules.specs.Flags.{there}
 use Rattle.rules.specs.declared.Values.{Values}
 use Rattle.wire.specs.declared.Message.{Message}
@@ -59,7 +58,7 @@ module _ (id w : ℕ) (v : Record) (m : Message) where
   asked-did c f = go (there (v .committed .some)) refl (ltb (m .ballot) (v .promise)) refl
     where
       go : (a : Bool) → there (v .committed .some) ≡ a → (b : Bool) → ltb (m .ballot) (v .promise) ≡ b →
-        Did id w v m (cond a (becomes v (done (m .t) (v .pieces) (v .committed .set))) (cond b (becomes v (behind (m .t) id (m .ballot) (v .promise))) c))
+          Did id w v m (cond a (becomes v (done (m .t) (v .pieces) (v .committed .set))) (cond b (becomes v (behind (m .t) id (m .ballot) (v .promise))) c))
       go true e b k = isDone e
       go false e true k = tells _ (behind-plain (m .t) id (m .ballot) (v .promise))
       go false e false k = f (record { uncommitted = e; low = ltb-false (m .ballot) (v .promise) k })
@@ -69,7 +68,7 @@ module _ (id w : ℕ) (v : Record) (m : Message) where
   preAccept-did k o = go (there (v .arrival .some)) refl
     where
       go : (a : Bool) → there (v .arrival .some) ≡ a →
-        Did id w v m (becomes (cond a (promised m v) (withArrival w (promised m v))) (preAcceptOK (m .t) id (m .ballot) ((cond a (promised m v) (withArrival w (promised m v))) .arrival .word)))
+          Did id w v m (becomes (cond a (promised m v) (withArrival w (promised m v))) (preAcceptOK (m .t) id (m .ballot) ((cond a (promised m v) (withArrival w (promised m v))) .arrival .word)))
       go true e = preAcceptsAgain k o e
       go false e = preAcceptsFirst k o e
 

@@ -1,7 +1,7 @@
 -- A server's form, part by part. Assumes nothing.
 use mathlib.Core.Path.{_≡_, refl, sym, _∙_, ap, subst}
 use mathlib.Core.Logic.{_⊎_, inl, inr}
-use mathlib.Core.Bool.{Bool, true, false, not, cond, _&&_, _||_, true≢false, false≢true}
+use mathlib.Core.Bool.{Bool, true, false, not, cond, _&&_, _||_, false≢true}
 use Prim.Native.Nat.{ℕ, zero, suc, _≤_, _<_}
 use native.Mathlib.Omega.{arith}
 use native.Mathlib.Decide.{ℕ-discrete}
@@ -9,7 +9,7 @@ use borrow.Author.Tests.{eqb-true, eq-eqb, leb-true, le-leb}
 use lib.Dec.{eqb, leb}
 use Rattle.masks.specs.Bits.{has, insert, within}
 use Rattle.masks.specs.Folds.{allBelow, iter}
-use Rattle.masks.proofs.Bools.{and-yes, and-yes-l, and-yes-r, or-yes, or-yes-l, or-yes-r, not-yes, not-no, true-and-false, bool-ext}
+use Rattle.masks.proofs.Bools.{and-yes, and-yes-l, and-yes-r, or-yes, or-yes-l, or-yes-r, not-yes, true-and-false}
 use Rattle.masks.proofs.Laws.{has-insert, has-none}
 use Rattle.masks.proofs.FoldLaws.{all-at, all-of}
 use Rattle.rules.specs.Flags.{there, implies}
@@ -92,19 +92,20 @@ module _ (k t : ℕ) (v : Record) where
         committedHas = λ h. then-yes (A || B || C) P eh (any-of3 A B C (inr (inr h)));
         arrival = λ h. not-yes (badWord t (shardsOf (v .pieces)) k (v .arrival .word)) (then-yes A W (and-yes-l (implies A W) (implies B X) ex) h);
         accepted = λ h. not-yes (badSet t (shardsOf (v .pieces)) (v .accepted .set)) (then-yes B X (and-yes-r (implies A W) (implies B X) ex) h);
-        committed = λ h. not-yes (badSet t (shardsOf (v .pieces)) (v .committed .set)) (then-yes C Y (and-yes-r (implies A W && implies B X) (implies C Y) es) h) }
+        committed = λ h. not-yes (badSet t (shardsOf (v .pieces)) (v .committed .set)) (then-yes C Y (and-yes-r (implies A W && implies B X) (implies C Y) es) h);
+      }
 
   pub parts-record : RecordForm k t v → recordFormed k t v ≡ true
   unfolding recordFormed piecesFormed ballotsFormed setsHavePieces setsFormed
   parts-record f =
       and-yes _ _
-        (and-yes _ _
-          (and-yes _ _ (yes-then P (piecesKept (v .pieces)) (f .pieces))
-            (and-yes _ _ (ap not (f .promise)) (yes-then B (not (badBallot (v .accepted .ballot))) (λ h. ap not (f .ballot h)))))
-          (yes-then (A || B || C) P (λ h. held (any-left A B C h))))
-        (and-yes _ _
-          (and-yes _ _ (yes-then A (not (badWord t (shardsOf (v .pieces)) k (v .arrival .word))) (λ h. ap not (f .arrival h))) (yes-then B (not (badSet t (shardsOf (v .pieces)) (v .accepted .set))) (λ h. ap not (f .accepted h))))
-          (yes-then C (not (badSet t (shardsOf (v .pieces)) (v .committed .set))) (λ h. ap not (f .committed h))))
+      (and-yes _ _
+      (and-yes _ _ (yes-then P (piecesKept (v .pieces)) (f .pieces))
+      (and-yes _ _ (ap not (f .promise)) (yes-then B (not (badBallot (v .accepted .ballot))) (λ h. ap not (f .ballot h)))))
+      (yes-then (A || B || C) P (λ h. held (any-left A B C h))))
+      (and-yes _ _
+      (and-yes _ _ (yes-then A (not (badWord t (shardsOf (v .pieces)) k (v .arrival .word))) (λ h. ap not (f .arrival h))) (yes-then B (not (badSet t (shardsOf (v .pieces)) (v .accepted .set))) (λ h. ap not (f .accepted h))))
+      (yes-then C (not (badSet t (shardsOf (v .pieces)) (v .committed .set))) (λ h. ap not (f .committed h))))
     where
       held : (A ≡ true) ⊎ ((B ≡ true) ⊎ (C ≡ true)) → P ≡ true
       held (inl h) = f .arrivalHas h
@@ -143,7 +144,7 @@ some-logged l (suc n) t i h z s = go (ℕ-discrete i n) (some-logged l n t i)
     go (yes e) ih =
         let q : entryAt l n ≡ t = subst (λ i. entryAt l i ≡ t) e z in
         subst (λ (b : Bool). has (cond b (insert (logged l n) (entryAt l n)) (logged l n)) t ≡ true) (sym (le-leb (entryAt l n) 63 (omega arith)))
-          (has-insert (logged l n) (entryAt l n) t ∙ or-yes-r (has (logged l n) t) (eqb (entryAt l n) t) (eq-eqb (entryAt l n) t q))
+        (has-insert (logged l n) (entryAt l n) t ∙ or-yes-r (has (logged l n) t) (eqb (entryAt l n) t) (eq-eqb (entryAt l n) t q))
     go (no e) ih = put (leb (entryAt l n) 63) refl (ih (omega arith) z s)
 
 pub record EntryForm (s : Server) (i : ℕ) : Type 0 where
@@ -194,7 +195,8 @@ entry-parts s i e =
       small = leb-true x 63 (and-yes-l (leb x 63) n e1);
       new = not-yes (has (logged (s .log) i) x) (and-yes-r (leb x 63) n e1);
       committed = and-yes-r (leb x 63 && n) (committedAt s x) e2;
-      behind = and-yes-r (leb x 63 && n && committedAt s x) w e }
+      behind = and-yes-r (leb x 63 && n && committedAt s x) w e;
+    }
 
 parts-entry : (s : Server) (i : ℕ) → EntryForm s i → entryFormed s i ≡ true
 unfolding entryFormed
@@ -213,16 +215,17 @@ formed-parts s e =
       records = λ t l. record-parts (shard s) t (recordAt s t) (all-at (recordFormedAt s) 64 t (and-yes-r (not (badServer (s .id))) r e1) l);
       count = leb-true (s .log .count) 64 (and-yes-l (leb (s .log .count) 64) (allBelow (entryFormed s) (s .log .count)) el);
       entries = λ i l. entry-parts s i (all-at (entryFormed s) (s .log .count) i (and-yes-r (leb (s .log .count) 64) (allBelow (entryFormed s) (s .log .count)) el) l);
-      results = λ t l. result-parts (shard s) _ (recordAt s t) (all-at (resultsFormedAt s) 64 t (and-yes-r (not (badServer (s .id)) && r && logFormed s) q e) l) }
+      results = λ t l. result-parts (shard s) _ (recordAt s t) (all-at (resultsFormedAt s) 64 t (and-yes-r (not (badServer (s .id)) && r && logFormed s) q e) l);
+    }
 
 pub parts-formed : (s : Server) → Formed s → formed s ≡ true
 unfolding formed logFormed recordFormedAt resultsFormedAt
 parts-formed s f =
     and-yes _ _
-      (and-yes _ _
-        (and-yes _ _ (ap not (f .id)) (all-of (recordFormedAt s) 64 (λ t l. parts-record (shard s) t (recordAt s t) (f .records t l))))
-        (and-yes _ _ (le-leb (s .log .count) 64 (f .count)) (all-of (entryFormed s) (s .log .count) (λ i l. parts-entry s i (f .entries i l)))))
-      (all-of (resultsFormedAt s) 64 (λ t l. parts-result (shard s) _ (recordAt s t) (f .results t l)))
+    (and-yes _ _
+    (and-yes _ _ (ap not (f .id)) (all-of (recordFormedAt s) 64 (λ t l. parts-record (shard s) t (recordAt s t) (f .records t l))))
+    (and-yes _ _ (le-leb (s .log .count) 64 (f .count)) (all-of (entryFormed s) (s .log .count) (λ i l. parts-entry s i (f .entries i l)))))
+    (all-of (resultsFormedAt s) 64 (λ t l. parts-result (shard s) _ (recordAt s t) (f .results t l)))
 
 -- a number in the log is committed
 pub logged-committed : (s : Server) → Formed s → (t : ℕ) → has (logged (s .log) (s .log .count)) t ≡ true → committedAt s t ≡ true

@@ -1,20 +1,18 @@
 -- A log that gets one number more at its end, and what is in a log without repeats. Assumes nothing.
 use mathlib.Core.Path.{_≡_, refl, sym, _∙_, ap, subst}
-use mathlib.Core.Logic.{_⊎_, inl, inr, _≢_}
-use mathlib.Core.Bool.{Bool, true, false, cond, _||_}
-use Prim.Native.Nat.{ℕ, zero, suc, _+_, _^_, _≤_, _<_}
+use mathlib.Core.Bool.{false, cond}
+use Prim.Native.Nat.{ℕ, zero, suc, _+_, _≤_, _<_}
 use native.Mathlib.Omega.{arith}
 use native.Mathlib.Decide.{ℕ-discrete}
 use native.Mathlib.Numerals.{add-one}
-use borrow.Author.Tests.{le-leb, leb-true}
-use lib.Dec.{leb, lit<}
-use lib.ListN.{length, getD, set, length-set, take}
+use borrow.Author.Tests.{le-leb}
+use lib.Dec.{leb}
+use lib.ListN.{length, set, take}
 use lib.Seq.{getD-set-same, getD-set-other, take-suc-set}
-use mathlib.Core.List.{List, [], _∷_, _++_}
-use Rattle.masks.specs.Bits.{In, has, insert}
+use mathlib.Core.List.{[], _∷_, _++_}
+use Rattle.masks.specs.Bits.{has, insert}
 use Rattle.masks.specs.Folds.{iter, size}
-use Rattle.masks.proofs.Bools.{true-and-false, true-or-false}
-use Rattle.masks.proofs.Laws.{has-in, in-has, has-insert, has-not, insert-lt}
+use Rattle.masks.proofs.Laws.{has-not}
 use Rattle.masks.proofs.Counts.{size-le, size-none, size-insert}
 use Rattle.server.specs.declared.Log.{Log}
 use Rattle.server.specs.Held.{entryAt, append}
@@ -88,7 +86,7 @@ module _ (l : Log) (t : ℕ) (room : l .count < length (l .list)) where
 
       new : (i : ℕ) → i < l .count + 1 → Dec (i ≡ l .count) → has (logged (append l t) i) (entryAt (append l t) i) ≡ false
       new i q (yes e) = subst (λ i. has (logged (append l t) i) (entryAt (append l t) i) ≡ false) (sym e)
-        (ap (λ (x : ℕ). has (logged (append l t) (l .count)) x) append-new ∙ ap (λ (w : ℕ). has w t) (logged-old (l .count) (omega arith)) ∙ n)
+          (ap (λ (x : ℕ). has (logged (append l t) (l .count)) x) append-new ∙ ap (λ (w : ℕ). has w t) (logged-old (l .count) (omega arith)) ∙ n)
       new i q (no e) =
           ap (λ (x : ℕ). has (logged (append l t) i) x) (append-old i (omega arith)) ∙ ap (λ (w : ℕ). has w (entryAt l i)) (logged-old i (omega arith)) ∙ f .new i (omega arith)
 

@@ -1,13 +1,12 @@
 -- A message that a server does not refuse: none of the refusals' tests fires. And which test fired for 5 and for 6. Assumes nothing.
-use mathlib.Core.Path.{_≡_, refl, sym, _∙_, ap}
+use mathlib.Core.Path.{_≡_, refl, sym}
 use mathlib.Core.Logic.{_≢_}
-use mathlib.Core.Bool.{Bool, true, false, not, cond, _&&_, _||_}
+use mathlib.Core.Bool.{Bool, true, false, not, cond, _&&_, false≢true}
 use Prim.Native.Nat.{ℕ, _<_}
 use native.Mathlib.Omega.{arith}
 use lib.Dec.{eqb}
-use borrow.Author.Tests.{eqb-true, eq-eqb, ltb-false}
+use borrow.Author.Tests.{eqb-true, ltb-false}
 use Rattle.masks.proofs.Bools.{not-no, or-no-l}
-use Rattle.rules.specs.Choice.{_if_else_}
 use Rattle.rules.specs.Pieces.{shardsOf}
 use Rattle.wire.specs.declared.Message.{Message}
 use Rattle.wire.specs.Faults.{badNumbers, badPieces, badSets}
@@ -37,6 +36,11 @@ pub is-first : (n : ℕ) (b : Bool) (r : ℕ) → r ≢ n → cond b n r ≡ n �
 is-first n true r h e = refl
 is-first n false r h e = absurd (h e)
 
+-- of two that are not both, the one is: the other is not
+pub one-no : (a b : Bool) → (a && b) ≡ false → a ≡ true → b ≡ false
+one-no true b e h = e
+one-no false b e h = absurd (false≢true h)
+
 pub passed : (s : Server) (m : Message) → refusal s m ≡ 0 → Passed s m
 unfolding refusal
 passed s m e =
@@ -49,8 +53,15 @@ passed s m e =
     let p5 = not-first 0 (otherPieces (recordAt s (m .t)) m) 5 _ (λ z. omega arith) (p4 .1) in
     let p6 = not-first 0 (otherSet (recordAt s (m .t)) m) 6 _ (λ z. omega arith) (p5 .1) in
     record {
-      form = not-no (formed s) (p13 .0); code = p12 .0; numbers = p1 .0; pieces = p2 .0;
-      sets = p3 .0; shard = p4 .0; same = p5 .0; set = p6 .0 }
+      form = not-no (formed s) (p13 .0);
+      code = p12 .0;
+      numbers = p1 .0;
+      pieces = p2 .0;
+      sets = p3 .0;
+      shard = p4 .0;
+      same = p5 .0;
+      set = p6 .0;
+    }
 
 six-or-none : (b : Bool) → _≢_ {A = ℕ} (cond b 6 0) 5
 six-or-none true e = omega arith
@@ -73,8 +84,11 @@ refused5 s m e =
     let p3 = not-first 5 (badSets (shardsOf (m .pieces)) m) 3 _ (λ z. omega arith) (p2 .1) in
     let p4 = not-first 5 (untouched (shard s) (shardsOf (m .pieces)) m) 4 _ (λ z. omega arith) (p3 .1) in
     record {
-      code = p12 .0; numbers = p1 .0; pieces = p2 .0;
-      other = is-first 5 (otherPieces (recordAt s (m .t)) m) _ (six-or-none (otherSet (recordAt s (m .t)) m)) (p4 .1) }
+      code = p12 .0;
+      numbers = p1 .0;
+      pieces = p2 .0;
+      other = is-first 5 (otherPieces (recordAt s (m .t)) m) _ (six-or-none (otherSet (recordAt s (m .t)) m)) (p4 .1);
+    }
 
 -- what is known of a message that is refused by 6
 pub record OtherSet (s : Server) (m : Message) : Type 0 where

@@ -1,19 +1,18 @@
 -- A run keeps the form: it never logs a number twice, and what it logs is committed with all before it in the log. Assumes nothing.
 use mathlib.Core.Path.{_≡_, refl, sym, _∙_, ap, subst}
-use mathlib.Core.Logic.{_⊎_, inl, inr, _≢_}
-use mathlib.Core.Bool.{Bool, true, false, not, cond, _||_, _&&_, false≢true}
-use mathlib.Core.List.{List}
-use Prim.Native.Nat.{ℕ, zero, suc, _+_, _^_, _≤_, _<_}
+use mathlib.Core.Logic.{_⊎_, inl, inr}
+use mathlib.Core.Bool.{Bool, true, false, cond, _||_, false≢true}
+use Prim.Native.Nat.{ℕ, _^_, _≤_, _<_}
 use native.Mathlib.Omega.{arith}
 use native.Mathlib.Decide.{decLt, ℕ-discrete}
-use borrow.Author.Tests.{eqb-true, eq-eqb, ne-eqb}
+use borrow.Author.Tests.{eq-eqb, ne-eqb}
 use lib.Dec.{eqb, lit≤}
 use lib.Pow.{pow-pos}
 use lib.ListN.{length, getD, set, replicate, length-set, getD-replicate, List·getD-eq-default}
 use lib.Seq.{getD-set-same, getD-set-other}
-use Rattle.masks.specs.Bits.{In, has, insert, union, within}
-use Rattle.masks.specs.Folds.{maskOf, tab, iter}
-use Rattle.masks.proofs.Bools.{or-yes-l, or-yes-r, or-no, true-and-false, not-true-false}
+use Rattle.masks.specs.Bits.{In, has, union, within}
+use Rattle.masks.specs.Folds.{tab, iter}
+use Rattle.masks.proofs.Bools.{or-yes-r, not-true-false}
 use Rattle.masks.proofs.Laws.{has-in, in-has, has-none, has-insert, in-lt, in-or-left, in-or-right, in-or-cases, has-within, within-has}
 use Rattle.masks.proofs.FoldLaws.{has-mask-below, mask-bound, getD-tab, length-tab}
 use Rattle.rules.specs.declared.Pieces.{Pieces}
@@ -22,9 +21,8 @@ use Rattle.rules.specs.declared.MaybeVote.{MaybeVote}
 use Rattle.rules.specs.declared.MaybeSet.{MaybeSet}
 use Rattle.rules.specs.Flags.{there}
 use Rattle.rules.specs.Cluster.{badServer, shardOf}
-use Rattle.rules.specs.Pieces.{piecesOn}
 use Rattle.rules.specs.Sets.{members}
-use Rattle.graph.specs.Before.{Before, direct, Closed}
+use Rattle.graph.specs.Before.{direct}
 use Rattle.graph.proofs.Rows.{Words}
 use Rattle.graph.proofs.Groups.{Kept, kept-direct}
 use Rattle.graph.proofs.NextGroups.{next-closed, next-new, next-keeps, next-lt}
@@ -37,13 +35,13 @@ use Rattle.server.specs.declared.Server.{Server}
 use Rattle.server.specs.Held.{noRecord, freshRecord, recordAt, shard, committedAt, ranAt, committedWord, ranWord, entryAt}
 use Rattle.server.specs.Form.{logged, formed}
 use Rattle.server.specs.Run.{depsAt, depsOf, nextRun, withResults, runOne, runGroup, turn, ranNone, run, turns, ranFrom, runAll}
-use Rattle.server.proofs.RunLeaves.{SameHeld, Leaves, set-either}
+use Rattle.server.proofs.RunLeaves.{SameHeld}
 use Rattle.server.specs.Host.{freshServer}
 use Rattle.server.proofs.RunGroups.{group-long, group-deps}
 use Rattle.server.proofs.RunTurns.{turns-keep}
 use Rattle.server.proofs.FormParts.{RecordForm, EntryForm, ResultForm, Formed, formed-parts, parts-formed, logged-some, some-logged, logged-committed}
 use Rattle.server.proofs.LogGrows.{Lined, logWord, lined-count}
-use Rattle.server.proofs.RunsOneByOne.{May, RanOneByOne, ran-keeps, Logs, word-more, Partway, group-ran, logs-more}
+use Rattle.server.proofs.RunsOneByOne.{May, ran-keeps, Logs, word-more, Partway, group-ran, logs-more}
 
 -- what every server's memory has: 64 records, a log of 64 places, and words in their committed sets
 pub record Memory (s : Server) : Type 0 where
@@ -98,7 +96,7 @@ log-kept s f = kept-direct
         let r = logged-some (s .log) (s .log .count) t e in
         let b = subst (λ t. within (members (recordAt s t .committed .set)) (logWord (s .log)) ≡ true) (r .2) (f .entries (r .0) (r .1) .behind) in
         within-has (members (recordAt s t .committed .set)) (logWord (s .log)) u b
-          (in-has (subst (λ w. In w u) (deps-committed s t (logged-small s f t e) (logged-committed s f t e)) d))
+        (in-has (subst (λ w. In w u) (deps-committed s t (logged-small s f t e) (logged-committed s f t e)) d))
 
 -- nothing is in a log without entries, and nothing depends on anything where nothing is committed
 nothing-logged : (l : Log) (t : ℕ) → has (logged l 0) t ≡ false
@@ -136,7 +134,7 @@ pub record-same : {k t : ℕ} {v v′ : Record} → SameHeld v v′ → RecordFo
 record-same {k} {t} {v} {v′} e f = go (v′ .pieces) (v′ .promise) (v′ .arrival) (v′ .accepted) (v′ .committed) (e .pieces) (e .promise) (e .arrival) (e .accepted) (e .committed)
   where
     go : (p : Pieces) (b : ℕ) (a : MaybeWord) (o : MaybeVote) (c : MaybeSet) → p ≡ v .pieces → b ≡ v .promise → a ≡ v .arrival → o ≡ v .accepted → c ≡ v .committed →
-      RecordForm k t (record { pieces = p; promise = b; arrival = a; accepted = o; committed = c; ran = v′ .ran; values = v′ .values })
+        RecordForm k t (record { pieces = p; promise = b; arrival = a; accepted = o; committed = c; ran = v′ .ran; values = v′ .values })
     go p b a o c ep eb ea eo ec =
         subst (λ (p : Pieces). RecordForm k t (record { pieces = p; promise = b; arrival = a; accepted = o; committed = c; ran = v′ .ran; values = v′ .values })) (sym ep)
         (subst (λ (b : ℕ). RecordForm k t (record { pieces = v .pieces; promise = b; arrival = a; accepted = o; committed = c; ran = v′ .ran; values = v′ .values })) (sym eb)
@@ -144,8 +142,16 @@ record-same {k} {t} {v} {v′} e f = go (v′ .pieces) (v′ .promise) (v′ .ar
         (subst (λ (o : MaybeVote). RecordForm k t (record { pieces = v .pieces; promise = v .promise; arrival = v .arrival; accepted = o; committed = c; ran = v′ .ran; values = v′ .values })) (sym eo)
         (subst (λ (c : MaybeSet). RecordForm k t (record { pieces = v .pieces; promise = v .promise; arrival = v .arrival; accepted = v .accepted; committed = c; ran = v′ .ran; values = v′ .values })) (sym ec)
         (record {
-          pieces = f .pieces; promise = f .promise; ballot = f .ballot; arrivalHas = f .arrivalHas; acceptedHas = f .acceptedHas; committedHas = f .committedHas;
-          arrival = f .arrival; accepted = f .accepted; committed = f .committed })))))
+          pieces = f .pieces;
+          promise = f .promise;
+          ballot = f .ballot;
+          arrivalHas = f .arrivalHas;
+          acceptedHas = f .acceptedHas;
+          committedHas = f .committedHas;
+          arrival = f .arrival;
+          accepted = f .accepted;
+          committed = f .committed;
+        })))))
 
 -- results for exactly the logged numbers
 pub record Results (x : Server) : Type 0 where
@@ -156,9 +162,10 @@ pub record Results (x : Server) : Type 0 where
 results-more : (x : Server) (t : ℕ) → May x t → Results x → Results (runOne x t)
 unfolding runOne
 results-more x t m r = record {
-    records = length-set (x .records) t _ ∙ r .records;
-    logs = logs-more x t m (r .logs);
-    each = λ u l. go u l (ℕ-discrete u t) }
+  records = length-set (x .records) t _ ∙ r .records;
+  logs = logs-more x t m (r .logs);
+  each = λ u l. go u l (ℕ-discrete u t);
+}
   where
     word : (u : ℕ) → has (logWord (runOne x t .log)) u ≡ (has (logWord (x .log)) u || eqb t u)
     word u = ap (λ (w : ℕ). has w u) (word-more x t m (r .logs)) ∙ has-insert (logWord (x .log)) t u
@@ -168,7 +175,7 @@ results-more x t m r = record {
 
     go : (u : ℕ) → u < 64 → Dec (u ≡ t) → ResultForm (shard x) (has (logWord (runOne x t .log)) u) (getD (set (x .records) t R) u noRecord)
     go u l (yes e) = subst (λ u. ResultForm (shard x) (has (logWord (runOne x t .log)) u) (getD (set (x .records) t R) u noRecord)) (sym e)
-      (subst (ResultForm (shard x) (has (logWord (runOne x t .log)) t)) (sym (getD-set-same (x .records) t R noRecord (let q = m .small in omega (arith, r .records))))
+        (subst (ResultForm (shard x) (has (logWord (runOne x t .log)) t)) (sym (getD-set-same (x .records) t R noRecord (let q = m .small in omega (arith, r .records))))
         (record { ran = sym (word t ∙ or-yes-r (has (logWord (x .log)) t) (eqb t t) (eq-eqb t t refl)); count = λ z. results-count (recordAt x t .pieces) (shard x) (x .counters) }))
     go u l (no n) =
         subst (ResultForm (shard x) (has (logWord (runOne x t .log)) u)) (sym (getD-set-other (x .records) t u R noRecord n))
@@ -226,11 +233,12 @@ module _ (s : Server) (mem : Memory s) (f : Formed s) where
 
   pub group-formed : Formed S′
   group-formed = record {
-      id = subst (λ n. badServer n ≡ false) (sym (way .leaves .id)) (f .id);
-      records = λ t l. subst (λ n. RecordForm (shardOf n) t (recordAt S′ t)) (sym (way .leaves .id)) (record-same (way .leaves .held t) (f .records t l));
-      count = lined-count (S′ .log) (way .logs .lined);
-      entries = entry;
-      results = results-after .each }
+    id = subst (λ n. badServer n ≡ false) (sym (way .leaves .id)) (f .id);
+    records = λ t l. subst (λ n. RecordForm (shardOf n) t (recordAt S′ t)) (sym (way .leaves .id)) (record-same (way .leaves .held t) (f .records t l));
+    count = lined-count (S′ .log) (way .logs .lined);
+    entries = entry;
+    results = results-after .each;
+  }
     where
       entry : (i : ℕ) → i < S′ .log .count → EntryForm S′ i
       entry i l =
@@ -241,13 +249,14 @@ module _ (s : Server) (mem : Memory s) (f : Formed s) where
             small = q;
             new = way .logs .lined .new i l;
             committed = ap (λ (v : MaybeSet). there (v .some)) (same-committed e) ∙ group-committed e z;
-            behind = subst (λ (v : MaybeSet). within (members (v .set)) (logWord (S′ .log)) ≡ true) (sym (same-committed e)) (behind e (omega arith) z) }
+            behind = subst (λ (v : MaybeSet). within (members (v .set)) (logWord (S′ .log)) ≡ true) (sym (same-committed e)) (behind e (omega arith) z);
+          }
         where
           behind : (e : ℕ) → e < 64 → has (logWord (S′ .log)) e ≡ true → within (members (recordAt s e .committed .set)) (logWord (S′ .log)) ≡ true
           behind e l z =
               let d = deps-committed s e l (group-committed e z) in
               has-within 64 (members (recordAt s e .committed .set)) (logWord (S′ .log)) (subst (λ w. w < 2 ^ 64) d (mem .words e))
-                (λ u h b. log-in u (kept-after .behind e u (in-log e z) (direct (subst (λ w. In w u) (sym d) (has-in b)))))
+              (λ u h b. log-in u (kept-after .behind e u (in-log e z) (direct (subst (λ w. In w u) (sym d) (has-in b)))))
 
 -- ---- runs
 
@@ -258,11 +267,13 @@ pub record Sound (s : Server) : Type 0 where
 
 pub group-sound : (s : Server) → Sound s → Sound (runGroup s (nextRun s))
 group-sound s h = record {
-    memory = record {
-      records = group-long s (nextRun s) ∙ h .memory .records;
-      log = way s (h .memory) (h .form) .logs .size;
-      words = subst Words (sym (group-deps s (nextRun s))) (h .memory .words) };
-    form = group-formed s (h .memory) (h .form) }
+  memory = record {
+    records = group-long s (nextRun s) ∙ h .memory .records;
+    log = way s (h .memory) (h .form) .logs .size;
+    words = subst Words (sym (group-deps s (nextRun s))) (h .memory .words);
+  };
+  form = group-formed s (h .memory) (h .form);
+}
 
 pub turns-sound : (n : ℕ) (s : Server) → Sound s → Sound (turns n s)
 turns-sound n s h = turns-keep Sound group-sound n s h
@@ -294,21 +305,30 @@ runAll-keeps-form s m e = parts-formed _ (runAll-sound s (record { memory = m; f
 
 fresh-record : {k : ℕ} (t : ℕ) → RecordForm k t freshRecord
 fresh-record t = record {
-    pieces = λ h. absurd (false≢true h); promise = refl; ballot = λ h. absurd (false≢true h);
-    arrivalHas = λ h. absurd (false≢true h); acceptedHas = λ h. absurd (false≢true h); committedHas = λ h. absurd (false≢true h);
-    arrival = λ h. absurd (false≢true h); accepted = λ h. absurd (false≢true h); committed = λ h. absurd (false≢true h) }
+  pieces = λ h. absurd (false≢true h);
+  promise = refl;
+  ballot = λ h. absurd (false≢true h);
+  arrivalHas = λ h. absurd (false≢true h);
+  acceptedHas = λ h. absurd (false≢true h);
+  committedHas = λ h. absurd (false≢true h);
+  arrival = λ h. absurd (false≢true h);
+  accepted = λ h. absurd (false≢true h);
+  committed = λ h. absurd (false≢true h);
+}
 
 -- with any counters
 pub fresh-sound : (id : ℕ) (c : Counters) → badServer id ≡ false → Sound (record { id = id; records = freshServer id .records; counters = c; log = freshServer id .log })
 unfolding freshServer
 fresh-sound id c e = record {
-    memory = record { records = refl; log = refl; words = words };
-    form = record {
-      id = e;
-      records = λ t l. subst (RecordForm (shardOf id) t) (sym (getD-replicate 64 t freshRecord noRecord l)) (fresh-record t);
-      count = lit≤ tt;
-      entries = λ i l. absurd (omega arith);
-      results = λ t l. subst (ResultForm (shardOf id) (has (logged (record { list = replicate 64 0; count = 0 }) 0) t)) (sym (getD-replicate 64 t freshRecord noRecord l)) (record { ran = sym (none t); count = λ h. absurd (false≢true h) }) } }
+  memory = record { records = refl; log = refl; words = words };
+  form = record {
+    id = e;
+    records = λ t l. subst (RecordForm (shardOf id) t) (sym (getD-replicate 64 t freshRecord noRecord l)) (fresh-record t);
+    count = lit≤ tt;
+    entries = λ i l. absurd (omega arith);
+    results = λ t l. subst (ResultForm (shardOf id) (has (logged (record { list = replicate 64 0; count = 0 }) 0) t)) (sym (getD-replicate 64 t freshRecord noRecord l)) (record { ran = sym (none t); count = λ h. absurd (false≢true h) });
+  };
+}
   where
     S : Server
     S = record { id = id; records = replicate 64 freshRecord; counters = c; log = record { list = replicate 64 0; count = 0 } }

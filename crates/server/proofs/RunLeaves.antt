@@ -1,22 +1,20 @@
 -- A run writes results, counters and the log, and leaves all else that a server holds. Assumes nothing.
-use mathlib.Core.Path.{_≡_, refl, sym, _∙_, ap, subst}
+use mathlib.Core.Path.{_≡_, refl, sym, _∙_, subst}
 use mathlib.Core.Bool.{Bool, true, false, cond}
-use Prim.Native.Nat.{ℕ, zero, suc, _<_}
+use Prim.Native.Nat.{ℕ, _<_}
 use native.Mathlib.Omega.{arith}
 use native.Mathlib.Decide.{decLt, ℕ-discrete}
-use lib.Dec.{eqb}
-use lib.ListN.{length, getD, set, length-set}
+use lib.ListN.{length, getD, set}
 use lib.Seq.{getD-set-same, getD-set-other, set-out}
 use mathlib.Core.List.{List}
-use Rattle.masks.specs.Folds.{over}
 use Rattle.masks.proofs.FoldLaws.{over-keeps}
-use Rattle.counters.specs.declared.Executed.{Executed}
 use Rattle.server.specs.declared.Record.{Record}
 use Rattle.server.specs.declared.Server.{Server}
-use Rattle.server.specs.declared.Ran.{Ran}
-use Rattle.server.specs.Held.{noRecord, recordAt}
+use Rattle.server.specs.Held.{recordAt}
 use Rattle.server.specs.Form.{formed}
-use Rattle.server.specs.Run.{withResults, stored, runOne, runGroup, nextRun, turn, run, turns, runAll, ranNone, ranFrom}
+use Rattle.server.proofs.RunTurns.{turns-keep}
+use Rattle.server.proofs.RunGroups.{one-id, one-long, one-part}
+use Rattle.server.specs.Run.{runOne, runGroup, nextRun, turn, run, turns, runAll, ranNone, ranFrom}
 
 -- what a law says of the entries of an array, after one was set
 pub set-either : {A : Type 0} (P : A → Type 0) (l : List A) (i j : ℕ) (a d : A) → P (getD l j d) → (j ≡ i → P a) → P (getD (set l i a) j d)
@@ -46,39 +44,36 @@ leaves-refl s = record { id = refl; size = refl; held = λ u. record { pieces = 
 
 pub leaves-trans : {a b c : Server} → Leaves a b → Leaves b c → Leaves a c
 leaves-trans p q = record {
-    id = q .id ∙ p .id;
-    size = q .size ∙ p .size;
-    held = λ u. record {
-      pieces = q .held u .pieces ∙ p .held u .pieces;
-      promise = q .held u .promise ∙ p .held u .promise;
-      arrival = q .held u .arrival ∙ p .held u .arrival;
-      accepted = q .held u .accepted ∙ p .held u .accepted;
-      committed = q .held u .committed ∙ p .held u .committed } }
-
-stored-leaves : (s : Server) (t : ℕ) (e : Executed) → Leaves s (stored s t e)
-stored-leaves s t e = record {
-    id = refl;
-    size = length-set (s .records) t _;
-    held = λ u. set-either (SameHeld (recordAt s u)) (s .records) t u _ noRecord
-      (record { pieces = refl; promise = refl; arrival = refl; accepted = refl; committed = refl })
-      (λ z. subst (λ t. SameHeld (recordAt s u) (withResults (e .values) (recordAt s t))) z (record { pieces = refl; promise = refl; arrival = refl; accepted = refl; committed = refl })) }
+  id = q .id ∙ p .id;
+  size = q .size ∙ p .size;
+  held = λ u. record {
+    pieces = q .held u .pieces ∙ p .held u .pieces;
+    promise = q .held u .promise ∙ p .held u .promise;
+    arrival = q .held u .arrival ∙ p .held u .arrival;
+    accepted = q .held u .accepted ∙ p .held u .accepted;
+    committed = q .held u .committed ∙ p .held u .committed;
+  };
+}
 
 pub runOne-leaves : (s : Server) (t : ℕ) → Leaves s (runOne s t)
-unfolding runOne
-runOne-leaves s t = stored-leaves s t _
+runOne-leaves s t = record {
+  id = one-id s t;
+  size = one-long s t;
+  held = λ u. record {
+    pieces = one-part s t (λ v. v .pieces) (λ r v. refl) u;
+    promise = one-part s t (λ v. v .promise) (λ r v. refl) u;
+    arrival = one-part s t (λ v. v .arrival) (λ r v. refl) u;
+    accepted = one-part s t (λ v. v .accepted) (λ r v. refl) u;
+    committed = one-part s t (λ v. v .committed) (λ r v. refl) u;
+  };
+}
 
 pub runGroup-leaves : (s : Server) (g : ℕ) → Leaves s (runGroup s g)
 unfolding runGroup
 runGroup-leaves s g = over-keeps (Leaves s) runOne s g 64 (leaves-refl s) (λ x i l h p. leaves-trans p (runOne-leaves x i))
 
 pub turns-leaves : (n : ℕ) (s : Server) → Leaves s (turns n s)
-unfolding turns
-turns-leaves zero s = leaves-refl s
-turns-leaves (suc n) s = go (eqb (nextRun s) 0) (leaves-trans (runGroup-leaves s (nextRun s)) (turns-leaves n (runGroup s (nextRun s))))
-  where
-    go : (b : Bool) → Leaves s (turns n (runGroup s (nextRun s))) → Leaves s (cond b s (turns n (runGroup s (nextRun s))))
-    go true h = leaves-refl s
-    go false h = h
+turns-leaves n s = turns-keep (Leaves s) (λ x p. leaves-trans p (runGroup-leaves x (nextRun x))) n s (leaves-refl s)
 
 pub run-leaves : (s : Server) → Leaves s (run s .server)
 unfolding run turn

@@ -1,27 +1,23 @@
 -- A run of a ready group is numbers run one by one, each committed and not yet in the log; together they are the group, rising. Assumes nothing.
 use mathlib.Core.Path.{_≡_, refl, sym, _∙_, ap, subst}
-use mathlib.Core.Logic.{_⊎_, inl, inr, _≢_}
-use mathlib.Core.Bool.{Bool, true, false, cond, _||_, false≢true}
-use Prim.Native.Nat.{ℕ, zero, suc, _+_, _^_, _≤_, _<_}
+use mathlib.Core.Logic.{_⊎_, inl, inr}
+use mathlib.Core.Bool.{Bool, true, false, cond, _||_}
+use Prim.Native.Nat.{ℕ, zero, suc, _≤_, _<_}
 use native.Mathlib.Omega.{arith}
 use native.Mathlib.Decide.{ℕ-discrete}
 use borrow.Author.Tests.{eqb-true, eq-eqb}
-use lib.Dec.{eqb, lit<}
-use lib.ListN.{length, getD, set, length-set, take}
+use lib.Dec.{eqb}
+use lib.ListN.{length, length-set, take}
 use mathlib.Core.List.{List, [], _∷_, _++_, append-nil, append-assoc}
-use Rattle.masks.specs.Bits.{In, has, insert}
+use Rattle.masks.specs.Bits.{has, insert}
 use Rattle.masks.specs.Folds.{over}
 use Rattle.masks.proofs.Bools.{or-yes, or-yes-l, or-yes-r, true-and-false, not-true-false}
-use Rattle.masks.proofs.Laws.{has-in, in-has, has-insert}
+use Rattle.masks.proofs.Laws.{has-insert}
 use Rattle.rules.specs.Flags.{there}
 use Rattle.rules.specs.declared.MaybeSet.{MaybeSet}
-use Rattle.counters.specs.Effects.{execute}
-use Rattle.server.specs.declared.Record.{Record}
-use Rattle.server.specs.declared.Log.{Log}
 use Rattle.server.specs.declared.Server.{Server}
-use Rattle.server.specs.Held.{recordAt, shard, committedAt, append}
-use Rattle.server.specs.Form.{logged}
-use Rattle.server.specs.Run.{stored, runOne, runGroup}
+use Rattle.server.specs.Held.{committedAt}
+use Rattle.server.specs.Run.{runOne, runGroup}
 use Rattle.server.proofs.RunLeaves.{Leaves, leaves-refl, leaves-trans, runOne-leaves}
 use Rattle.server.proofs.LogGrows.{Lined, logWord, lined-room, append-lined, logged-all, append-list}
 
@@ -61,8 +57,9 @@ pub record Logs (x : Server) : Type 0 where
 pub logs-more : (x : Server) (t : ℕ) → May x t → Logs x → Logs (runOne x t)
 unfolding runOne
 logs-more x t m g = record {
-    size = length-set (x .log .list) (x .log .count) t ∙ g .size;
-    lined = append-lined (x .log) t (let r = m .room in omega (arith, g .size)) (g .lined) (let r = m .small in omega arith) (m .new) }
+  size = length-set (x .log .list) (x .log .count) t ∙ g .size;
+  lined = append-lined (x .log) t (let r = m .room in omega (arith, g .size)) (g .lined) (let r = m .small in omega arith) (m .new);
+}
 
 pub word-more : (x : Server) (t : ℕ) → May x t → Logs x → logWord (runOne x t .log) ≡ insert (logWord (x .log)) t
 unfolding runOne
@@ -86,13 +83,14 @@ module _ (s : Server) (g : ℕ) (lg : Logs s) (comm : (u : ℕ) → has g u ≡ 
   partway-next : (n : ℕ) (x : Server) → n < 64 → has g n ≡ true → Partway n x → Partway (suc n) (runOne x n)
   unfolding rising
   partway-next n x l e p = record {
-      ran = more (p .ran) n may;
-      leaves = leaves-trans (p .leaves) (runOne-leaves x n);
-      logs = logs-more x n may (p .logs);
-      from = λ u h. from u (or-yes (has (logWord (x .log)) u) (eqb n u) (sym (has-insert (logWord (x .log)) n u) ∙ subst (λ w. has w u ≡ true) word h));
-      old = λ u h. subst (λ w. has w u ≡ true) (sym word) (has-insert (logWord (x .log)) n u ∙ or-yes-l (has (logWord (x .log)) u) (eqb n u) (p .old u h));
-      into = λ u q h. subst (λ w. has w u ≡ true) (sym word) (has-insert (logWord (x .log)) n u ∙ into u q h (ℕ-discrete n u));
-      listed = list-more x n may (p .logs) ∙ ap (λ (a : List ℕ). a ++ (n ∷ [])) (p .listed) ∙ append-assoc (take (s .log .count) (s .log .list)) (rising g n) (n ∷ []) ∙ ap (λ (b : Bool). take (s .log .count) (s .log .list) ++ cond b (rising g n ++ (n ∷ [])) (rising g n)) (sym e) }
+    ran = more (p .ran) n may;
+    leaves = leaves-trans (p .leaves) (runOne-leaves x n);
+    logs = logs-more x n may (p .logs);
+    from = λ u h. from u (or-yes (has (logWord (x .log)) u) (eqb n u) (sym (has-insert (logWord (x .log)) n u) ∙ subst (λ w. has w u ≡ true) word h));
+    old = λ u h. subst (λ w. has w u ≡ true) (sym word) (has-insert (logWord (x .log)) n u ∙ or-yes-l (has (logWord (x .log)) u) (eqb n u) (p .old u h));
+    into = λ u q h. subst (λ w. has w u ≡ true) (sym word) (has-insert (logWord (x .log)) n u ∙ into u q h (ℕ-discrete n u));
+    listed = list-more x n may (p .logs) ∙ ap (λ (a : List ℕ). a ++ (n ∷ [])) (p .listed) ∙ append-assoc (take (s .log .count) (s .log .list)) (rising g n) (n ∷ []) ∙ ap (λ (b : Bool). take (s .log .count) (s .log .list) ++ cond b (rising g n ++ (n ∷ [])) (rising g n)) (sym e);
+  }
     where
       fresh : has (logWord (x .log)) n ≡ false
       fresh = not-true-false (has (logWord (x .log)) n) (λ h. go (p .from n h))
@@ -103,9 +101,11 @@ module _ (s : Server) (g : ℕ) (lg : Logs s) (comm : (u : ℕ) → has g u ≡ 
 
       may : May x n
       may = record {
-          small = l; new = fresh;
-          room = lined-room (x .log) (p .logs .lined) n l fresh;
-          committed = ap (λ (v : MaybeSet). there (v .some)) (p .leaves .held n .committed) ∙ comm n e }
+        small = l;
+        new = fresh;
+        room = lined-room (x .log) (p .logs .lined) n l fresh;
+        committed = ap (λ (v : MaybeSet). there (v .some)) (p .leaves .held n .committed) ∙ comm n e;
+      }
 
       word : logWord (runOne x n .log) ≡ insert (logWord (x .log)) n
       word = word-more x n may (p .logs)
@@ -125,11 +125,14 @@ module _ (s : Server) (g : ℕ) (lg : Logs s) (comm : (u : ℕ) → has g u ≡ 
   partway-skip : (n : ℕ) (x : Server) → has g n ≡ false → Partway n x → Partway (suc n) x
   unfolding rising
   partway-skip n x e p = record {
-      ran = p .ran; leaves = p .leaves; logs = p .logs;
-      from = λ u h. from u (p .from u h);
-      old = p .old;
-      into = λ u q h. into u q h (ℕ-discrete u n);
-      listed = p .listed ∙ ap (λ (b : Bool). take (s .log .count) (s .log .list) ++ cond b (rising g n ++ (n ∷ [])) (rising g n)) (sym e) }
+    ran = p .ran;
+    leaves = p .leaves;
+    logs = p .logs;
+    from = λ u h. from u (p .from u h);
+    old = p .old;
+    into = λ u q h. into u q h (ℕ-discrete u n);
+    listed = p .listed ∙ ap (λ (b : Bool). take (s .log .count) (s .log .list) ++ cond b (rising g n ++ (n ∷ [])) (rising g n)) (sym e);
+  }
     where
       from : (u : ℕ) → (has (logWord (s .log)) u ≡ true) ⊎ ((u < n) × (has g u ≡ true)) → (has (logWord (s .log)) u ≡ true) ⊎ ((u < suc n) × (has g u ≡ true))
       from u (inl h) = inl h
@@ -142,8 +145,14 @@ module _ (s : Server) (g : ℕ) (lg : Logs s) (comm : (u : ℕ) → has g u ≡ 
   partway : (n : ℕ) → n ≤ 64 → Partway n (over runOne s g n)
   unfolding over rising
   partway zero l = record {
-      ran = none; leaves = leaves-refl s; logs = lg; from = λ u h. inl h; old = λ u h. h; into = λ u q h. absurd (omega arith);
-      listed = start }
+    ran = none;
+    leaves = leaves-refl s;
+    logs = lg;
+    from = λ u h. inl h;
+    old = λ u h. h;
+    into = λ u q h. absurd (omega arith);
+    listed = start;
+  }
     where
       start : take (s .log .count) (s .log .list) ≡ take (s .log .count) (s .log .list) ++ rising g 0
       start = sym (append-nil (take (s .log .count) (s .log .list)))

@@ -1,20 +1,17 @@
 -- A fresh server is in form, and a message keeps the form. Assumes nothing.
 use mathlib.Core.Path.{_≡_, refl, sym, _∙_, ap, subst}
-use mathlib.Core.Logic.{_⊎_, inl, inr, _≢_}
-use mathlib.Core.Bool.{Bool, true, false, not, cond, _&&_, _||_, true≢false, false≢true}
-use Prim.Native.Nat.{ℕ, zero, suc, _+_, _≤_, _<_}
+use mathlib.Core.Logic.{_⊎_, inl, inr}
+use mathlib.Core.Bool.{Bool, true, false, not, cond, _&&_, _||_}
+use Prim.Native.Nat.{ℕ, _<_}
 use native.Mathlib.Omega.{arith}
-use borrow.Author.Tests.{eqb-true, eqb-false, eq-eqb, ne-eqb, leb-true}
-use lib.Dec.{eqb, leb, ltb, lit≤}
-use lib.ListN.{length, getD, set, replicate, length-set, getD-replicate}
-use lib.Seq.{getD-set-same, getD-set-other}
+use borrow.Author.Tests.{eqb-true, ne-eqb, leb-true}
+use lib.Dec.{eqb, leb}
+use lib.ListN.{length, set}
 use Rattle.masks.specs.Bits.{has, within}
-use Rattle.masks.specs.Folds.{allBelow, maskOf}
-use Rattle.masks.proofs.Bools.{and-yes-l, and-yes-r, and-no-l, or-no, or-no-l, or-no-r, or-yes, not-no, true-and-false, not-true-false}
-use Rattle.masks.proofs.Laws.{has-none, not-has}
+use Rattle.masks.specs.Folds.{allBelow}
+use Rattle.masks.proofs.Bools.{and-yes-l, and-no-l, or-no-l, or-no-r, or-yes, not-no, true-and-false}
 use Rattle.masks.proofs.FoldLaws.{has-mask-below}
 use Rattle.rules.specs.declared.Pieces.{Pieces}
-use Rattle.rules.specs.declared.Set.{Set}
 use Rattle.rules.specs.Flags.{there}
 use Rattle.rules.specs.Cluster.{badServer, badNumber}
 use Rattle.rules.specs.Ballots.{badBallot}
@@ -28,22 +25,17 @@ use Rattle.wire.specs.Faults.{badNumbers, badPieces, badSets}
 use Rattle.server.specs.declared.Record.{Record}
 use Rattle.server.specs.declared.Server.{Server}
 use Rattle.server.specs.declared.Changed.{Changed}
-use Rattle.server.specs.Held.{noRecord, freshRecord, recordAt, putRecord, shard, committedAt, arrivedAt, entryAt}
+use Rattle.server.specs.Held.{noRecord, recordAt, putRecord, shard, committedAt, arrivedAt, entryAt}
 use Rattle.server.specs.Form.{logged, formed}
 use Rattle.server.specs.Refusals.{untouched, otherPieces, refusal}
 use Rattle.server.specs.Changes.{change}
-use Rattle.server.specs.Serve.{cameEarlier, arrivalSet, fixes, arrivalFor, served, refused, taken, serve}
-use Rattle.server.specs.Host.{freshServer}
-use Rattle.server.proofs.Passed.{Passed, passed, number-below}
+use Rattle.server.specs.Serve.{cameEarlier, arrivalSet, fixes, arrivalFor, refused, taken, serve}
+use Rattle.server.proofs.Passed.{Passed, passed, one-no, number-below}
 use Rattle.server.proofs.Did.{Did, tells, isDone, preAcceptsFirst, preAcceptsAgain, accepts, prepares, commitsFirst, Open, change-did}
 use Rattle.server.proofs.RunLeaves.{set-either}
-use Rattle.server.proofs.FormParts.{RecordForm, EntryForm, ResultForm, Formed, formed-parts, parts-formed, logged-committed, logged-some}
+use Rattle.server.proofs.FormParts.{RecordForm, EntryForm, ResultForm, Formed, formed-parts, parts-formed, logged-committed}
 
 -- ---- what the refusals leave of a message
-
-one-no : (a b : Bool) → (a && b) ≡ false → a ≡ true → b ≡ false
-one-no true b e h = e
-one-no false b e h = absurd (false≢true h)
 
 ballot-number : (m : Message) → badNumbers m ≡ false → shapeOf (m .code) .ballot ≡ true → badBallot (m .ballot) ≡ false
 unfolding badNumbers
@@ -107,7 +99,8 @@ module _ (s : Server) (m : Message) (p : Passed s m) (f : RecordForm (shard s) (
   new-arrival e n l =
       kept-word T (shardsOf (m .pieces)) K (arrivalFor s m) (record {
         own = subst (λ (b : Bool). has (cond b (arrivalSet s (m .pieces)) 0) T ≡ false) (sym fixed) (has-mask-below (cameEarlier s (m .pieces)) 64 T l ∙ and-no-l (arrivedAt s T) _ n);
-        untouched = λ z. absurd (true-and-false (not-no (has (shardsOf (m .pieces)) K) (one-no (asks (m .code)) (not (has (shardsOf (m .pieces)) K)) (p .shard) (subst (λ k. asks k ≡ true) (sym e) refl))) z) })
+        untouched = λ z. absurd (true-and-false (not-no (has (shardsOf (m .pieces)) K) (one-no (asks (m .code)) (not (has (shardsOf (m .pieces)) K)) (p .shard) (subst (λ k. asks k ≡ true) (sym e) refl))) z);
+      })
     where
       fixed : fixes R m ≡ true
       fixed = subst (λ k. (eqb k PreAccept && not (there (R .arrival .some))) ≡ true) (sym e) (ap not n)
@@ -143,38 +136,73 @@ module _ (s : Server) (m : Message) (p : Passed s m) (f : RecordForm (shard s) (
       let h : hasPieces (m .code) ≡ true = of PreAccept hasPieces k refl in
       let a = kept-any (m .pieces) (kept h) in
       record {
-        pieces = λ z. kept h; promise = ballot-number m (p .numbers) (of PreAccept hasBallot k refl); ballot = f .ballot;
-        arrivalHas = λ z. a; acceptedHas = λ z. a; committedHas = λ z. a;
-        arrival = λ z. new-arrival k n l; accepted = old-accepted h; committed = λ z. no-commit op z }
+        pieces = λ z. kept h;
+        promise = ballot-number m (p .numbers) (of PreAccept hasBallot k refl);
+        ballot = f .ballot;
+        arrivalHas = λ z. a;
+        acceptedHas = λ z. a;
+        committedHas = λ z. a;
+        arrival = λ z. new-arrival k n l;
+        accepted = old-accepted h;
+        committed = λ z. no-commit op z;
+      }
   did-record l (preAcceptsAgain k op n) =
       let h : hasPieces (m .code) ≡ true = of PreAccept hasPieces k refl in
       let a = kept-any (m .pieces) (kept h) in
       record {
-        pieces = λ z. kept h; promise = ballot-number m (p .numbers) (of PreAccept hasBallot k refl); ballot = f .ballot;
-        arrivalHas = λ z. a; acceptedHas = λ z. a; committedHas = λ z. a;
-        arrival = old-arrival h; accepted = old-accepted h; committed = λ z. no-commit op z }
+        pieces = λ z. kept h;
+        promise = ballot-number m (p .numbers) (of PreAccept hasBallot k refl);
+        ballot = f .ballot;
+        arrivalHas = λ z. a;
+        acceptedHas = λ z. a;
+        committedHas = λ z. a;
+        arrival = old-arrival h;
+        accepted = old-accepted h;
+        committed = λ z. no-commit op z;
+      }
   did-record l (accepts k op) =
       let h : hasPieces (m .code) ≡ true = of Accept hasPieces k refl in
       let a = kept-any (m .pieces) (kept h) in
       let b = ballot-number m (p .numbers) (of Accept hasBallot k refl) in
       record {
-        pieces = λ z. kept h; promise = b; ballot = λ z. b;
-        arrivalHas = λ z. a; acceptedHas = λ z. a; committedHas = λ z. a;
-        arrival = old-arrival h; accepted = λ z. message-set (shardsOf (m .pieces)) m (p .sets) (of Accept hasSet k refl); committed = λ z. no-commit op z }
+        pieces = λ z. kept h;
+        promise = b;
+        ballot = λ z. b;
+        arrivalHas = λ z. a;
+        acceptedHas = λ z. a;
+        committedHas = λ z. a;
+        arrival = old-arrival h;
+        accepted = λ z. message-set (shardsOf (m .pieces)) m (p .sets) (of Accept hasSet k refl);
+        committed = λ z. no-commit op z;
+      }
   did-record l (prepares k op) =
       let h : hasPieces (m .code) ≡ true = of Prepare hasPieces k refl in
       let a = kept-any (m .pieces) (kept h) in
       record {
-        pieces = λ z. kept h; promise = ballot-number m (p .numbers) (of Prepare hasBallot k refl); ballot = f .ballot;
-        arrivalHas = λ z. a; acceptedHas = λ z. a; committedHas = λ z. a;
-        arrival = old-arrival h; accepted = old-accepted h; committed = λ z. no-commit op z }
+        pieces = λ z. kept h;
+        promise = ballot-number m (p .numbers) (of Prepare hasBallot k refl);
+        ballot = f .ballot;
+        arrivalHas = λ z. a;
+        acceptedHas = λ z. a;
+        committedHas = λ z. a;
+        arrival = old-arrival h;
+        accepted = old-accepted h;
+        committed = λ z. no-commit op z;
+      }
   did-record l (commitsFirst k n) =
       let h : hasPieces (m .code) ≡ true = commit-shape hasPieces refl refl k in
       let a = kept-any (m .pieces) (kept h) in
       record {
-        pieces = λ z. kept h; promise = f .promise; ballot = f .ballot;
-        arrivalHas = λ z. a; acceptedHas = λ z. a; committedHas = λ z. a;
-        arrival = old-arrival h; accepted = old-accepted h; committed = λ z. message-set (shardsOf (m .pieces)) m (p .sets) (commit-shape hasSet refl refl k) }
+        pieces = λ z. kept h;
+        promise = f .promise;
+        ballot = f .ballot;
+        arrivalHas = λ z. a;
+        acceptedHas = λ z. a;
+        committedHas = λ z. a;
+        arrival = old-arrival h;
+        accepted = old-accepted h;
+        committed = λ z. message-set (shardsOf (m .pieces)) m (p .sets) (commit-shape hasSet refl refl k);
+      }
 
 -- a committed number's record stays, and nothing runs by a message
 pub did-committed : {id w : ℕ} {v : Record} {m : Message} {o : Changed} → Did id w v m o → there (v .committed .some) ≡ true → o .after ≡ v
@@ -212,23 +240,25 @@ module _ (s : Server) (m : Message) (o : Changed) (p : Passed s m) (did : Did (s
 
   pub after-form : Formed Z
   after-form = record {
-      id = form .id;
-      records = λ t l. at (λ t v. RecordForm (shard s) t v) (did-record s m p (form .records (m .t) small) small did) t (form .records t l);
-      count = form .count;
-      entries = λ i l. entry i (form .entries i l);
-      results = λ t l. at (λ t v. ResultForm (shard s) (has (logged (s .log) (s .log .count)) t) v) result t (form .results t l) }
+    id = form .id;
+    records = λ t l. at (λ t v. RecordForm (shard s) t v) (did-record s m p (form .records (m .t) small) small did) t (form .records t l);
+    count = form .count;
+    entries = λ i l. entry i (form .entries i l);
+    results = λ t l. at (λ t v. ResultForm (shard s) (has (logged (s .log) (s .log .count)) t) v) result t (form .results t l);
+  }
     where
       -- a committed record is the same one
       same : (u : ℕ) → committedAt s u ≡ true → recordAt Z u ≡ recordAt s u
       same u e = set-either (λ v. v ≡ recordAt s u) (s .records) (m .t) u (o .after) noRecord refl
-        (λ z. did-committed did (subst (λ u. committedAt s u ≡ true) z e) ∙ ap (recordAt s) (sym z))
+          (λ z. did-committed did (subst (λ u. committedAt s u ≡ true) z e) ∙ ap (recordAt s) (sym z))
 
       entry : (i : ℕ) → EntryForm s i → EntryForm Z i
       entry i e = record {
-          small = e .small;
-          new = e .new;
-          committed = subst (λ (v : Record). there (v .committed .some) ≡ true) (sym (same (entryAt (s .log) i) (e .committed))) (e .committed);
-          behind = subst (λ (v : Record). within (members (v .committed .set)) (logged (s .log) (s .log .count)) ≡ true) (sym (same (entryAt (s .log) i) (e .committed))) (e .behind) }
+        small = e .small;
+        new = e .new;
+        committed = subst (λ (v : Record). there (v .committed .some) ≡ true) (sym (same (entryAt (s .log) i) (e .committed))) (e .committed);
+        behind = subst (λ (v : Record). within (members (v .committed .set)) (logged (s .log) (s .log .count)) ≡ true) (sym (same (entryAt (s .log) i) (e .committed))) (e .behind);
+      }
 
       result : ResultForm (shard s) (has (logged (s .log) (s .log .count)) (m .t)) (o .after)
       result = go (there (recordAt s (m .t) .ran)) refl
