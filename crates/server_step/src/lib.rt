@@ -1,7 +1,7 @@
 // A server's step: the refusals in their order, then what the message does to the record of its T.
 ghost use mathlib.Core.Path.{_≡_};
 ghost use Rattle.server.specs.Serve.{serve};
-use faults::codes::PRE_ACCEPT;
+use messages::codes::PRE_ACCEPT;
 use rules::cluster::shard_of;
 use rules::conflicts::keys_on;
 use server::Served;

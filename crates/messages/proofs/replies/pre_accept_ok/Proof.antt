@@ -1,7 +1,7 @@
 -- `replies::pre_accept_ok` meets its contract. Assumes nothing.
-use Rattle.server_change.proofs.replies.pre_accept_ok.Statement.{statement}
+use Rattle.messages.proofs.replies.pre_accept_ok.Statement.{statement}
 use borrow.Author.Needs.{needs}
-use Rattle.server_change.proofs.replies.pre_accept_ok.Tie as tie
+use Rattle.messages.proofs.replies.pre_accept_ok.Tie as tie
 
 plain-requires : tie.Need-plain-requires
 plain-requires c κs = search needs

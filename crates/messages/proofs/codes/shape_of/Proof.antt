@@ -2,8 +2,8 @@
 use borrow.Author.Tests.{ne-eqb}
 use Rattle.wire.specs.Codes.{shapeOf}
 use borrow.Author.Needs.{needs}
-use Rattle.codec.proofs.shapes.shape_of.Statement.{statement}
-use Rattle.codec.proofs.shapes.shape_of.Tie as tie
+use Rattle.messages.proofs.codes.shape_of.Statement.{statement}
+use Rattle.messages.proofs.codes.shape_of.Tie as tie
 
 has-requires : tie.Need-has-requires
 has-requires c κs = search needs

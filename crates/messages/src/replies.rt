@@ -1,75 +1,21 @@
 // A server's replies, each made from its fields. A field that a reply does not have is zero.
-use faults::codes::ACCEPT_OK;
-use faults::codes::BEHIND;
-use faults::codes::COMMIT_OK;
-use faults::codes::DONE;
-use faults::codes::NOT_YET;
-use faults::codes::PRE_ACCEPT_OK;
-use faults::codes::PREPARE_OK;
-use faults::codes::RESULTS;
+use crate::codes::ACCEPT_OK;
+use crate::codes::BEHIND;
+use crate::codes::COMMIT_OK;
+use crate::codes::DONE;
+use crate::codes::NOT_YET;
+use crate::codes::PRE_ACCEPT_OK;
+use crate::codes::PREPARE_OK;
+use crate::codes::RESULTS;
+use crate::plain;
 use rules::MaybeVote;
 use rules::MaybeWord;
-use rules::Piece;
 use rules::Pieces;
 use rules::Set;
-use rules::Value;
 use rules::Values;
 use wire::Message;
 ghost use mathlib.Core.Path.{_≡_};
-ghost use Rattle.rules.specs.Pieces.{noPieces};
-ghost use Rattle.rules.specs.Sets.{noSet};
-ghost use Rattle.wire.specs.Messages.{message, blank, preAcceptOK, acceptOK, prepareOK, commitOK, done, behind, notYet, results};
-
-// A code, T, server, ballot and promise, and nothing else.
-fn plain(code: u32, t: u32, server: u32, ballot: u32, promise: u32) -> Message
-    ensures { λ r. ⌜ r ≡ message code t server ballot promise noPieces noSet ⌝ }
-{
-    let piece = Piece {
-        shard: 0,
-        key: 0,
-        kind: 0,
-        operand: 0,
-    };
-    let value = Value { value: 0, kept: 0 };
-    let pieces = [piece; 8];
-    let values = [value; 8];
-    let none = Set {
-        w0: 0,
-        w1: 0,
-        w2: 0,
-        w3: 0,
-    };
-    Message {
-        code: code,
-        t: t,
-        server: server,
-        ballot: ballot,
-        promise: promise,
-        pieces: Pieces {
-            list: pieces,
-            count: 0,
-        },
-        set: none,
-        word: 0,
-        arrival: MaybeWord { some: 0, word: 0 },
-        accepted: MaybeVote {
-            some: 0,
-            ballot: 0,
-            set: none,
-        },
-        values: Values {
-            list: values,
-            count: 0,
-        },
-    }
-}
-
-// What a refused step answers.
-pub fn blank() -> Message
-    ensures { λ r. ⌜ r ≡ blank ⌝ }
-{
-    plain(0, 0, 0, 0, 0)
-}
+ghost use Rattle.wire.specs.Messages.{preAcceptOK, acceptOK, prepareOK, commitOK, done, behind, notYet, results};
 
 pub fn pre_accept_ok(t: u32, server: u32, ballot: u32, word: u64) -> Message
     ensures { λ r. ⌜ r ≡ preAcceptOK t server ballot word ⌝ }
