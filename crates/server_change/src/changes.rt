@@ -12,7 +12,7 @@ use server::Changed;
 use server::Record;
 use wire::Message;
 ghost use mathlib.Core.Path.{_≡_};
-ghost use Rattle.server.specs.Changes.{promised, withArrival, withAccepted, withCommitted, becomes, asked, arrive, preAccepted, accepted, prepared, committed, inquired, fetched, change};
+ghost use Rattle.server.specs.Changes.{promised, asked, arrive, preAccepted, accepted, prepared, committed, inquired, fetched, change};
 
 // The ballot is promised, and the pieces are held.
 fn promised(m: Message, v: Record) -> Record
