@@ -6,7 +6,7 @@ ghost use Rattle.xdr.specs.Form.{Reads};
 ghost use Rattle.wire.specs.Messages.{blank};
 ghost use Rattle.wire.specs.Bytes.{code, ended, decodedAs};
 ghost use Rattle.codec.specs.Sections.{front, rest, noRest, joined};
-use crate::shapes::shape_of;
+use messages::codes::shape_of;
 use parts::get_arrays::get_pieces_if;
 use parts::get_arrays::get_values_if;
 use parts::get_parts::get_prepared_if;

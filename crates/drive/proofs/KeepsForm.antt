@@ -301,3 +301,15 @@ recover-makes-form lent c t ps floor e = unless-form lent (recoverRefusal c t ps
 pub again-makes-form : (d : Drive) → again d .refusal ≡ 0 → formed (again d .drive) ≡ true
 unfolding again
 again-makes-form d e = unless-form d (againRefusal d) _ (λ z. again-formed d z) e
+
+-- and leaves a drive in form as it is, where it is refused
+pub again-keeps-form : (d : Drive) → formed d ≡ true → formed (again d .drive) ≡ true
+unfolding again unless
+again-keeps-form d e = go (eqb (againRefusal d) 0) refl
+  where
+    Z : Drive
+    Z = began (d .t) (d .coordinator) (nextAbove (d .coordinator) (above d)) 0 (d .pieces) (d .seen)
+
+    go : (b : Bool) → eqb (againRefusal d) 0 ≡ b → formed (cond b (moved Z) (refused d (againRefusal d)) .drive) ≡ true
+    go true h = parts-formed Z (again-formed d (eqb-true (againRefusal d) 0 h))
+    go false h = e

@@ -3,7 +3,7 @@ use mathlib.Core.Path.{_≡_, refl, sym, subst}
 use mathlib.Core.Bool.{Bool, true, false, cond}
 use mathlib.Core.Option.{none, some, Option·some-injective, Option·none-ne-some}
 use mathlib.Core.List.{_∷_}
-use Prim.Native.Nat.{ℕ, _/_, _^_, _≤_, _<_}
+use Prim.Native.Nat.{ℕ, _^_, _≤_, _<_}
 use native.Mathlib.Omega.{arith}
 use native.Mathlib.Decide.{decLt}
 use borrow.Author.Tests.{eqb-true, le-ltb}
@@ -21,7 +21,8 @@ use Rattle.server.specs.Host.{freshServer}
 use Rattle.server.specs.Run.{depsAt, depsOf}
 use Rattle.server.proofs.FormParts.{Formed, parts-formed}
 use Rattle.server.proofs.ServeKeepsForm.{after-form}
-use Rattle.server.proofs.RunKeepsForm.{Sound, run-sound, runAll-sound, fresh-sound}
+use Rattle.server.proofs.RunKeepsForm.{Sound, run-sound, runAll-sound}
+use Rattle.server.proofs.KeepsForm.{fresh-sound}
 use Rattle.drive.specs.declared.Drive.{Drive}
 use Rattle.drive.specs.declared.Moved.{Moved}
 use Rattle.drive.specs.Form as D
@@ -81,7 +82,7 @@ module _ (w : World) where
   first-formal : AllFormal (atFirst w)
   unfolding atFirst firstServer freshServer
   first-formal s l =
-      let z = fresh-sound s (w .counters (s / 3)) (le-ltb 11 s (omega arith)) in
+      let z = fresh-sound s (atFirst w .servers s .counters) (le-ltb 11 s (omega arith)) in
       record { form = z .form; places = z .memory .log }
 
   pub reached-formal : {c : Cluster} → Reached w c → AllFormal c

@@ -1,5 +1,5 @@
 -- One number's part of a cluster: what each server holds for it, and what was sent of it.
--- The facts below speak of arrival words, which never change once they are there, and of what was sent, which only grows.
+-- The facts below speak of arrival words, which never change once they are there, and of what was sent, which only grows. Assumes nothing.
 use mathlib.Core.Path.{_≡_}
 use mathlib.Core.Bool.{true, false}
 use Prim.Native.Nat.{ℕ, _^_, _≤_, _<_}

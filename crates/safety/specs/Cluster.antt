@@ -1,5 +1,7 @@
 -- The cluster of demand 3: its servers, stations that hold at most one live drive each, the ballots taken, and all that was sent.
--- Each step is a definition of the server or the drive. A refused step changes nothing and sends nothing, as if its message were lost.
+-- Each step is a definition of the server or the drive. A refused step changes nothing and sends nothing, as if its message were lost. Messages may be lost, repeated, reordered and misled.
+-- What demand 3 takes for granted stands here: each message that arrives was sent (`Reaches`, and the guard of `hears`); each number names one transaction (`World`, in `starts` and `recovers`);
+-- each ballot of a number is taken once (`Unused`); no server or live drive forgets (there is no step that does; a drive may vanish whole).
 use Prim.Native.Nat.{ℕ, _<_}
 use mathlib.Core.Path.{_≡_}
 use mathlib.Core.Option.{Option, none, some}
@@ -42,9 +44,11 @@ pub record Taken : Type 0 where
   pub ballot : ℕ
 
 pub record Cluster : Type 0 where
+  -- those below SERVERS; the others never do anything
   pub servers : ℕ → Server
   pub stations : ℕ → Option Drive
   pub taken : List Taken
+  -- grows only, the last in front
   pub sent : List Message
   -- the numbers in the order in which each first ran anywhere
   pub order : List ℕ
@@ -112,15 +116,20 @@ Unused c r = r .refusal ≡ 0 → List·Memᴰ (ballotOf (r .drive)) (c .taken) 
 -- ---- the steps
 
 pub data Next (w : World) (c : Cluster) : Cluster → Type 0 where
+  -- a server takes a message, runs, or runs until nothing is left
   takes : (i : ℕ) (m : Message) → i < SERVERS → Reaches c m → Next w c (answered c i (serve (c .servers i) m))
   runs : (i : ℕ) → i < SERVERS → Next w c (ran c i (run (c .servers i)))
   runsOut : (i : ℕ) → i < SERVERS → Next w c (ran c i (runAll (c .servers i)))
+  -- a station sends the message due
   sends : (j : ℕ) (d : Drive) → c .stations j ≡ some d → Next w c (asked c (due d))
+  -- a live drive hears what was sent, or is told to move on
   hears : (j : ℕ) (d : Drive) (m : Message) → c .stations j ≡ some d → List·Memᴰ m (c .sent) → Next w c (moved c j (hear d m))
   movesOn : (j : ℕ) (d : Drive) → c .stations j ≡ some d → Next w c (moved c j (moveOn d))
+  -- a ballot is taken at a station, whatever it is lent; by Again its live drive takes it
   starts : (j : ℕ) (lent : Drive) (q t : ℕ) → Unused c (start lent q t (w .pieces t)) → Next w c (began c j (start lent q t (w .pieces t)))
   recovers : (j : ℕ) (lent : Drive) (q t floor : ℕ) → Unused c (recover lent q t (w .pieces t) floor) → Next w c (began c j (recover lent q t (w .pieces t) floor))
   triesAgain : (j : ℕ) (d : Drive) → c .stations j ≡ some d → Unused c (again d) → Next w c (began c j (again d))
+  -- a drive is gone
   vanishes : (j : ℕ) → Next w c (vanished c j)
 
 pub data Reached (w : World) : Cluster → Type 0 where

@@ -9,3 +9,4 @@ pub mod ServeKeepsForm
 pub mod LogGrows
 pub mod RunsOneByOne
 pub mod RunKeepsForm
+pub mod KeepsForm

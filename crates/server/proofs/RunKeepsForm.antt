@@ -1,14 +1,14 @@
 -- A run keeps the form: it never logs a number twice, and what it logs is committed with all before it in the log. Assumes nothing.
 use mathlib.Core.Path.{_≡_, refl, sym, _∙_, ap, subst}
 use mathlib.Core.Logic.{_⊎_, inl, inr}
-use mathlib.Core.Bool.{Bool, true, false, cond, _||_, false≢true}
+use mathlib.Core.Bool.{Bool, true, false, cond, _||_}
 use Prim.Native.Nat.{ℕ, _^_, _≤_, _<_}
 use native.Mathlib.Omega.{arith}
 use native.Mathlib.Decide.{decLt, ℕ-discrete}
 use borrow.Author.Tests.{eq-eqb, ne-eqb}
-use lib.Dec.{eqb, lit≤}
+use lib.Dec.{eqb}
 use lib.Pow.{pow-pos}
-use lib.ListN.{length, getD, set, replicate, length-set, getD-replicate, List·getD-eq-default}
+use lib.ListN.{length, getD, set, length-set, List·getD-eq-default}
 use lib.Seq.{getD-set-same, getD-set-other}
 use Rattle.masks.specs.Bits.{In, has, union, within}
 use Rattle.masks.specs.Folds.{tab, iter}
@@ -26,20 +26,18 @@ use Rattle.graph.specs.Before.{direct}
 use Rattle.graph.proofs.Rows.{Words}
 use Rattle.graph.proofs.Groups.{Kept, kept-direct}
 use Rattle.graph.proofs.NextGroups.{next-closed, next-new, next-keeps, next-lt}
-use Rattle.counters.specs.declared.Counters.{Counters}
 use Rattle.counters.specs.Effects.{execute}
 use Rattle.counters.proofs.Results.{results-count}
 use Rattle.server.specs.declared.Record.{Record}
 use Rattle.server.specs.declared.Log.{Log}
 use Rattle.server.specs.declared.Server.{Server}
-use Rattle.server.specs.Held.{noRecord, freshRecord, recordAt, shard, committedAt, ranAt, committedWord, ranWord, entryAt}
+use Rattle.server.specs.Held.{noRecord, recordAt, shard, committedAt, ranAt, committedWord, ranWord, entryAt}
 use Rattle.server.specs.Form.{logged, formed}
 use Rattle.server.specs.Run.{depsAt, depsOf, nextRun, withResults, runOne, runGroup, turn, ranNone, run, turns, ranFrom, runAll}
 use Rattle.server.proofs.RunLeaves.{SameHeld}
-use Rattle.server.specs.Host.{freshServer}
 use Rattle.server.proofs.RunGroups.{group-long, group-deps}
 use Rattle.server.proofs.RunTurns.{turns-keep}
-use Rattle.server.proofs.FormParts.{RecordForm, EntryForm, ResultForm, Formed, formed-parts, parts-formed, logged-some, some-logged, logged-committed}
+use Rattle.server.proofs.FormParts.{RecordForm, EntryForm, ResultForm, Formed, logged-some, some-logged, logged-committed}
 use Rattle.server.proofs.LogGrows.{Lined, logWord, lined-count}
 use Rattle.server.proofs.RunsOneByOne.{May, ran-keeps, Logs, word-more, Partway, group-ran, logs-more}
 
@@ -99,11 +97,11 @@ log-kept s f = kept-direct
         (in-has (subst (λ w. In w u) (deps-committed s t (logged-small s f t e) (logged-committed s f t e)) d))
 
 -- nothing is in a log without entries, and nothing depends on anything where nothing is committed
-nothing-logged : (l : Log) (t : ℕ) → has (logged l 0) t ≡ false
+pub nothing-logged : (l : Log) (t : ℕ) → has (logged l 0) t ≡ false
 unfolding logged iter
 nothing-logged l t = has-none t
 
-nothing-depends : (s : Server) → ((t : ℕ) → t < 64 → committedAt s t ≡ false) → Words (depsOf s)
+pub nothing-depends : (s : Server) → ((t : ℕ) → t < 64 → committedAt s t ≡ false) → Words (depsOf s)
 unfolding depsOf depsAt
 nothing-depends s f t = go (decLt t 64)
   where
@@ -294,47 +292,3 @@ runAll-sound s h = go (formed s)
     go : (b : Bool) → Sound ((cond b (ranFrom s (turns 64 s)) (ranNone s 13)) .server)
     go true = turns-sound 64 s h
     go false = h
-
-pub run-keeps-form : (s : Server) → Memory s → formed s ≡ true → formed (run s .server) ≡ true
-run-keeps-form s m e = parts-formed _ (run-sound s (record { memory = m; form = formed-parts s e }) .form)
-
-pub runAll-keeps-form : (s : Server) → Memory s → formed s ≡ true → formed (runAll s .server) ≡ true
-runAll-keeps-form s m e = parts-formed _ (runAll-sound s (record { memory = m; form = formed-parts s e }) .form)
-
--- ---- a fresh server
-
-fresh-record : {k : ℕ} (t : ℕ) → RecordForm k t freshRecord
-fresh-record t = record {
-  pieces = λ h. absurd (false≢true h);
-  promise = refl;
-  ballot = λ h. absurd (false≢true h);
-  arrivalHas = λ h. absurd (false≢true h);
-  acceptedHas = λ h. absurd (false≢true h);
-  committedHas = λ h. absurd (false≢true h);
-  arrival = λ h. absurd (false≢true h);
-  accepted = λ h. absurd (false≢true h);
-  committed = λ h. absurd (false≢true h);
-}
-
--- with any counters
-pub fresh-sound : (id : ℕ) (c : Counters) → badServer id ≡ false → Sound (record { id = id; records = freshServer id .records; counters = c; log = freshServer id .log })
-unfolding freshServer
-fresh-sound id c e = record {
-  memory = record { records = refl; log = refl; words = words };
-  form = record {
-    id = e;
-    records = λ t l. subst (RecordForm (shardOf id) t) (sym (getD-replicate 64 t freshRecord noRecord l)) (fresh-record t);
-    count = lit≤ tt;
-    entries = λ i l. absurd (omega arith);
-    results = λ t l. subst (ResultForm (shardOf id) (has (logged (record { list = replicate 64 0; count = 0 }) 0) t)) (sym (getD-replicate 64 t freshRecord noRecord l)) (record { ran = sym (none t); count = λ h. absurd (false≢true h) });
-  };
-}
-  where
-    S : Server
-    S = record { id = id; records = replicate 64 freshRecord; counters = c; log = record { list = replicate 64 0; count = 0 } }
-
-    none : (t : ℕ) → has (logged (record { list = replicate 64 0; count = 0 }) 0) t ≡ false
-    none t = nothing-logged (record { list = replicate 64 0; count = 0 }) t
-
-    words : Words (depsOf S)
-    words = nothing-depends S (λ t l. ap (λ (v : Record). there (v .committed .some)) (getD-replicate 64 t freshRecord noRecord l))

@@ -1,9 +1,10 @@
 //! Messages and states in words, for transcripts that are read by eye.
 
 use model::cluster::numbers_in;
+use model::drive::Answer;
 use model::pieces::{ADD, PUT, READ};
 use model::server::Record;
-use model::{Drive, Message, Piece, Pieces, Set, Value};
+use model::{Drive, Message, Piece, Pieces, Set, Value, Vote};
 
 /// The numbers of a word: `{1 8}`.
 pub fn word(word: u64) -> String {
@@ -22,6 +23,10 @@ fn set_or_none(held: Option<&Set>) -> String {
 
 fn word_or_none(held: Option<u64>) -> String {
     held.map_or("none".to_string(), word)
+}
+
+fn vote_or(held: Option<Vote>, none: &str) -> String {
+    held.map_or(none.to_string(), |vote| format!("{} at {}", set(&vote.set), vote.ballot))
 }
 
 /// A piece as document 01 writes it: `(0,3,put,5)`.
@@ -61,8 +66,10 @@ fn parse_piece(text: &str) -> Option<Piece> {
     })
 }
 
-fn value(value: &Value) -> String {
-    format!("{}{}", value.value, if value.kept { " kept" } else { "" })
+/// Results: `5, 7 kept`.
+pub fn values(values: &[Value]) -> String {
+    let value = |value: &Value| format!("{}{}", value.value, if value.kept { " kept" } else { "" });
+    values.iter().map(value).collect::<Vec<_>>().join(", ")
 }
 
 pub fn message(message: &Message) -> String {
@@ -81,8 +88,7 @@ pub fn message(message: &Message) -> String {
         Message::AcceptOk { t, server, ballot } => format!("AcceptOK T{t} server {server} ballot {ballot}"),
         Message::CommitOk { t, server } => format!("CommitOK T{t} server {server}"),
         Message::PrepareOk { t, server, ballot, arrival, accepted } => {
-            let accepted = accepted.map_or("nothing".to_string(), |v| format!("{} at {}", set(&v.set), v.ballot));
-            let arrival = word_or_none(*arrival);
+            let (arrival, accepted) = (word_or_none(*arrival), vote_or(*accepted, "nothing"));
             format!("PrepareOK T{t} server {server} ballot {ballot} arrived {arrival} accepted {accepted}")
         }
         Message::Done { t, pieces: p, set: s } => format!("Done T{t} {} set {}", pieces(p), set(s)),
@@ -90,10 +96,7 @@ pub fn message(message: &Message) -> String {
             format!("Behind T{t} server {server} asked {asked} promise {promise}")
         }
         Message::NotYet { t, server } => format!("NotYet T{t} server {server}"),
-        Message::Results { t, server, values } => {
-            let values: Vec<String> = values.entries().iter().map(value).collect();
-            format!("Results T{t} server {server}: {}", values.join(", "))
-        }
+        Message::Results { t, server, values: v } => format!("Results T{t} server {server}: {}", values(v.entries())),
     }
 }
 
@@ -120,14 +123,24 @@ pub fn drive(drive: &Drive) -> String {
     said
 }
 
+/// What is held of a number, but for its pieces and results.
 pub fn record(record: &Record) -> String {
-    let accepted = record.accepted.map_or("none".to_string(), |v| format!("{} at {}", set(&v.set), v.ballot));
+    let accepted = vote_or(record.accepted, "none");
     format!(
         "promise {}, arrived {}, accepted {accepted}, committed {}",
         record.promise,
         word_or_none(record.arrival),
         set_or_none(record.committed.as_ref())
     )
+}
+
+/// What a drive counted, server by server.
+pub fn answers(drive: &Drive) -> String {
+    let said = |(server, answer): (usize, &Option<Answer>)| {
+        let answer = answer.as_ref()?;
+        Some(format!("{server}: {}, accepted {}", word_or_none(answer.word), vote_or(answer.accepted, "nothing")))
+    };
+    drive.answers.iter().enumerate().filter_map(said).collect::<Vec<_>>().join("; ")
 }
 
 pub fn numbers(list: &[u32]) -> String {

@@ -16,6 +16,8 @@ pub enum Check {
     EqualCounters,
     /// A number has the same results at every server of the shard that ran it.
     EqualResults,
+    /// A run answers how many it logged.
+    RunCount,
     /// Refusals 5, 6 and 13 are never given, nor any other that no host asked for.
     Refusals,
     /// With all trunks up, every number that was begun can be driven to its end and runs.
@@ -29,6 +31,7 @@ impl fmt::Display for Check {
             Check::OneOrder => "one order",
             Check::EqualCounters => "equal counters",
             Check::EqualResults => "equal results",
+            Check::RunCount => "the count of a run",
             Check::Refusals => "refusals",
             Check::Progress => "progress",
         })

@@ -69,7 +69,7 @@ fn verdict(history: &History) -> ExitCode {
             ExitCode::SUCCESS
         }
         Some(fault) => {
-            println!("seed {}: {} is broken: {}", history.seed, fault.check, fault.what);
+            println!("seed {} breaks {}: {}", history.seed, fault.check, fault.what);
             ExitCode::FAILURE
         }
     }

@@ -28,10 +28,20 @@ pub enum Slip {
     LowestAccepted,
     /// A promise above the ballot isn't looked at.
     PromiseIgnored,
+    /// An impostor: a server that always says Behind.
+    AlwaysBehind,
+    /// An impostor: a server whose arrival words are always empty.
+    AlwaysEmpty,
+    /// An impostor: a server that answers and stores nothing.
+    StoresNothing,
+    /// An impostor: a run that reports one more than ran.
+    InventedCount,
+    /// An impostor: a run until 0 that executes the first group and only logs the others.
+    FirstGroupOnly,
 }
 
 impl Slip {
-    pub const ALL: [Slip; 9] = [
+    pub const ALL: [Slip; 14] = [
         Slip::PreAcceptForgetsAccepted,
         Slip::CommonestAccepted,
         Slip::FastOnTwoOfThree,
@@ -41,6 +51,11 @@ impl Slip {
         Slip::GroupFallsAtEvenServers,
         Slip::LowestAccepted,
         Slip::PromiseIgnored,
+        Slip::AlwaysBehind,
+        Slip::AlwaysEmpty,
+        Slip::StoresNothing,
+        Slip::InventedCount,
+        Slip::FirstGroupOnly,
     ];
 
     pub fn words(self) -> &'static str {
@@ -54,6 +69,11 @@ impl Slip {
             Slip::GroupFallsAtEvenServers => "a group runs in falling order at even servers",
             Slip::LowestAccepted => "recovery takes the accepted set of the lowest ballot",
             Slip::PromiseIgnored => "a server ignores its promise",
+            Slip::AlwaysBehind => "a server always says Behind",
+            Slip::AlwaysEmpty => "a server always answers an empty word",
+            Slip::StoresNothing => "a server answers and stores nothing",
+            Slip::InventedCount => "a run reports an invented number",
+            Slip::FirstGroupOnly => "a run until 0 executes the first group and only logs the rest",
         }
     }
 }
@@ -86,13 +106,7 @@ impl Engine for Slipped {
     }
 
     fn run_all(&self, server: &mut Server) -> Result<u32, Refusal> {
-        let mut many = 0;
-        loop {
-            match at_server::run(self.0, server)? {
-                0 => return Ok(many),
-                more => many += more,
-            }
-        }
+        at_server::run_all(self.0, server)
     }
 
     fn wanted(&self, server: &Server) -> Result<Set, Refusal> {

@@ -31,7 +31,7 @@ fn show(slip: Slip, scenarios: &[(String, String)]) -> bool {
     let found = find(slip);
     match &found {
         Some(History { seed, fault: Some(fault), .. }) => {
-            println!("  {} is broken, seed {seed} ({:.1} s)", fault.check, begun.elapsed().as_secs_f64());
+            println!("  seed {seed} breaks {} ({:.1} s)", fault.check, begun.elapsed().as_secs_f64());
             println!("  {}", fault.what);
             told_alike(slip, *seed, &fault.what);
         }

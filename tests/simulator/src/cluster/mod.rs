@@ -102,11 +102,11 @@ impl<'e, E: Engine> Cluster<'e, E> {
             return 0;
         }
         self.tally.ran += u64::from(many);
+        self.tally.groups += u64::from(!until_0 && many > 1);
         let seen = self.engine.see_server(&self.servers[place]);
         self.story.tell(|| format!("server {server} runs {many}: log {}", text::numbers(seen.log.entries())));
-        self.tally.groups += u64::from(!until_0 && many > 1);
-        self.ran[place] = seen;
-        self.watch_runs();
+        let before = std::mem::replace(&mut self.ran[place], seen);
+        self.watch_runs(place, &before, many);
         many
     }
 

@@ -3,7 +3,7 @@
 use super::Cluster;
 use crate::checks::{self, Check, Fault};
 use engine::{text, Engine};
-use model::{codec, Message, Refusal};
+use model::{codec, Message, Refusal, Server};
 
 impl<E: Engine> Cluster<'_, E> {
     /// Holds the servers as they are now against all that must hold.
@@ -51,9 +51,15 @@ impl<E: Engine> Cluster<'_, E> {
         }
     }
 
-    /// The runs so far have one order, and equal results and counters.
-    pub(super) fn watch_runs(&mut self) {
-        let fault = checks::one_order(&self.ran, &self.transactions)
+    /// A run logged as many as it answered, and the runs so far have one order, and equal results and counters.
+    pub(super) fn watch_runs(&mut self, place: usize, before: &Server, many: u32) {
+        let (logged, told) = (self.ran[place].log.count, before.log.count + many);
+        let miscounted = (logged != told).then(|| {
+            let what = format!("server {place} answers {many} and has {logged} in its log");
+            Fault { check: Check::RunCount, what }
+        });
+        let fault = miscounted
+            .or_else(|| checks::one_order(&self.ran, &self.transactions))
             .or_else(|| checks::equal_results(&self.ran, &self.transactions))
             .or_else(|| checks::equal_counters(&self.ran, &self.transactions));
         self.blame(fault);
