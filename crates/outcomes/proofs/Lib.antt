@@ -8,6 +8,7 @@ pub mod DriveStep
 pub mod Faults
 pub mod Graph
 pub mod Masks
+pub mod Messages
 pub mod Parts
 pub mod Rules
 pub mod ServerChange
