@@ -15,6 +15,7 @@ class Function:
     answer: str
     ensures: list
     exported: bool
+    uses: list
 
     @property
     def name(self):
@@ -100,8 +101,9 @@ def public_functions(root='.'):
         crate = lib.parent.parent.name
         text = without_comments(lib.read_text(encoding='utf-8'))
         for prefix, body in modules(lib.parent, text, []):
+            uses = re.findall(r'ghost use ([^;]+);', body)
             for found_one in functions_of(body, prefix):
-                found.append(Function(crate, *found_one))
+                found.append(Function(crate, *found_one, uses))
     return found
 
 

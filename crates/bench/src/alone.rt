@@ -38,17 +38,16 @@ pub fn case_k() -> bool {
     let bytes = [0u8, 0, 0, 4, 0, 0, 0, 9];
     let mut out = [255u8; 9];
     let wrote = codec::encode(inquire(9), &mut out);
-    let mut same_bytes = true;
-    for i in 0..8 {
-        same_bytes = same_bytes & (out[i] == bytes[i]);
-    }
+    let front = (out[0] == 0) & (out[1] == 0) & (out[2] == 0) & (out[3] == 4);
+    let behind = (out[4] == 0) & (out[5] == 0) & (out[6] == 0) & (out[7] == 9);
     let back = codec::decode(&bytes);
     let cut = codec::decode(&bytes[..7]);
     let more = codec::decode(&[0u8, 0, 0, 4, 0, 0, 0, 9, 0]);
     let six = codec::decode(&[0u8, 0, 0, 6, 0, 0, 0, 9]);
     (wrote.refusal == 0)
         & (wrote.length == 8)
-        & same_bytes
+        & front
+        & behind
         & (out[8] == 255)
         & (back.refusal == 0)
         & same(back.message, inquire(9))

@@ -32,12 +32,13 @@ pub fn case_d() -> bool {
     let n = r.server;
     let log = n.log;
     let counters = n.counters;
+    let third = counters.list[3];
     (r.refusal == 0)
         & (r.many == 2)
         & (log.count == 2)
         & (log.list[0] == 1)
         & (log.list[1] == 8)
-        & (counters.list[3].value == 5)
+        & (third.value == 5)
 }
 
 pub fn case_e() -> bool {

@@ -7,6 +7,7 @@ pub mod DriveLent
 pub mod DriveStep
 pub mod Faults
 pub mod Graph
+pub mod Lent
 pub mod Masks
 pub mod Messages
 pub mod Parts
