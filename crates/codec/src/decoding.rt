@@ -91,7 +91,10 @@ pub fn short_message(n: usize, k: u32, f: GotFront) -> Decoded
         return refused(fault);
     }
     let message = plain(k, f.t, f.server, f.ballot, f.promise);
-    Decoded { refusal: 0, message }
+    Decoded {
+        refusal: 0,
+        message,
+    }
 }
 
 // A message that has some of the rest behind its front.
