@@ -1,0 +1,3 @@
+// What a host program in C or Rust links: thin functions over lent states and bytes. Each copies the lent state out, has one proved function do the work by value, and stores the state whole.
+
+pub mod servers; // servers.rt: a server's
