@@ -1,5 +1,6 @@
 // What one answer holds, and its form.
 ghost use mathlib.Core.Path.{_≡_};
+ghost use Rattle.drive.specs.Held.{addressed};
 ghost use Rattle.drive.specs.Decide.{hasWord, hasAccepted};
 ghost use Rattle.drive.specs.Form.{wordFormed, acceptedFormed};
 ghost use Rattle.drive_form.specs.Parts.{answerKept};
@@ -17,6 +18,13 @@ pub fn has_accepted(a: Answer) -> bool
     ensures { λ r. ⌜ r ≡ hasAccepted a ⌝ }
 {
     (a.counted != 0) & (a.accepted.some != 0)
+}
+
+// The server `s` is one of the touched shards.
+pub fn addressed(shards: u64, s: u32) -> bool
+    ensures { λ r. ⌜ r ≡ addressed shards s ⌝ }
+{
+    masks::has(shards, rules::cluster::shard_of(s) as usize)
 }
 
 // The arrival word that an answer holds in phases 0 and 1.

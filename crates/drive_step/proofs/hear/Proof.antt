@@ -1,0 +1,169 @@
+-- `drive_step::hear` meets its contract: the walk of the answers gives the form and the counted servers, these give the refusal; what is not refused is by its code, as Outcomes says. Assumes nothing.
+use mathlib.Core.Path.{_≡_, ap, sym, _∙_}
+use Prim.Native.Nat.{_≤_, _<_, _-_}
+use native.Mathlib.Omega.{arith}
+use borrow.Author.Needs.{needs}
+use borrow.Author.Tests.{eqb-true}
+use lib.ListN.{length, length-map}
+use Rattle.masks.proofs.Bools.{not-yes, not-no}
+use Rattle.drive.specs.Held.{withAnswer}
+use Rattle.drive.specs.Decide.{decided}
+use Rattle.drive.specs.Hear.{answerOf, refusal}
+use Rattle.drive_form.specs.Parts.{walkedTo}
+use Rattle.drive_form.proofs.Parts.{walked-first, walked-further}
+use Rattle.drive_step.proofs.InOrder.{refusal-is, ok-place}
+use Rattle.drive_step.proofs.Counting.{answer-counts, decided-after, answered-after}
+use Rattle.drive_step.proofs.Outcomes.{refused-hears, done-hears, behind-hears, waiting-hears, deciding-hears}
+use Rattle.drive_step.proofs.hear.Statement.{statement}
+use Rattle.drive_step.proofs.hear.Tie as tie
+
+abbrev Inv-loop : tie.InvT-loop
+Inv-loop m n fault shards l₀ i₀ l i = (i ≤ 12) × (l ≡ walkedTo n i)
+
+abbrev μ-loop : tie.MeasureT-loop
+μ-loop m n fault shards l₀ i₀ l i = 12 - i
+
+-- the answers are twelve
+full : (c : tie.Start Inv-loop μ-loop) → length (c .args .d .answers) ≡ 12
+full c = sym (length-map (c .args .d .answers) _) ∙ c .good .0 .1 .1 .1 .1 .1 .1 .1 .0 .1 .0 .1
+
+-- all answers are walked
+walked : (c : tie.After-loop Inv-loop μ-loop) → c .before .loop .l ≡ walkedTo (c .before .before .before .before .before .before .args .d) 12
+walked c = c .before .loop .inv .1 ∙ ap (walkedTo _) (omega arith)
+
+-- the number that is found is the refusal
+no-is : (c : tie.After-first-of Inv-loop μ-loop) → c .first-of .result ≡ refusal (c .before .before .before .before .before .before .before .before .before .before .before .before .args .d) (c .before .before .before .before .before .before .before .before .before .before .before .before .args .m)
+no-is c = refusal-is (c .before .before .before .before .before .before .before .before .before .before .before .before .args .d) (full (c .before .before .before .before .before .before .before .before .before .before .before .before)) (c .before .before .before .before .before .before .before .before .before .before .before .before .args .m) (c .before .before .before .before .before .before .before .before .before .before .before .fault-of .ensures) (c .before .before .before .before .before .before .before .before .before .shards-of .ensures) (walked (c .before .before .before .before .before .before)) (c .before .before .before .formed-by .ensures) (c .before .place-of .ensures) (c .first-of .ensures)
+
+-- the server of an OK is one of the twelve
+place-of-ok : (c : tie.Else3 Inv-loop μ-loop) → c .before .before .before .before .before .before .before .before .before .before .before .before .before .before .before .before .before .args .m .server < 12
+place-of-ok c = ok-place (c .before .before .before .before .before .before .before .before .before .before .before .before .before .before .before .before .before .args .d) (c .before .before .before .before .before .before .before .before .before .before .before .before .before .before .before .before .before .args .m) (sym (no-is (c .before .before .before .before .before)) ∙ eqb-true _ 0 (not-no _ (c .before .before .if1 .left))) (c .before .if2 .left) (c .if3 .left)
+
+-- whether the answers decide with this one
+decided-is : (c : tie.After-decided Inv-loop μ-loop) → c .decided .result ≡ decided (withAnswer (c .before .before .before .before .before .before .before .before .before .before .before .before .before .before .before .before .before .before .before .before .before .args .d) (c .before .before .before .before .before .before .before .before .before .before .before .before .before .before .before .before .before .before .before .before .before .args .m .server) (answerOf (c .before .before .before .before .before .before .before .before .before .before .before .before .before .before .before .before .before .before .before .before .before .args .m)))
+unfolding walkedTo
+decided-is c = rw (c .decided .ensures, c .before .insert .ensures, c .before .before .before .before .before .before .before .before .before .before .before .before .before .before .before .before .before .before .shards-of .ensures, walked (c .before .before .before .before .before .before .before .before .before .before .before .before .before .before .before)) (decided-after (c .before .before .before .before .before .before .before .before .before .before .before .before .before .before .before .before .before .before .before .before .before .args .d) (full (c .before .before .before .before .before .before .before .before .before .before .before .before .before .before .before .before .before .before .before .before .before)) (c .before .before .before .before .before .before .before .before .before .before .before .before .before .before .before .before .before .before .before .before .before .args .m .server) (place-of-ok (c .before .before .before .before)) (answerOf (c .before .before .before .before .before .before .before .before .before .before .before .before .before .before .before .before .before .before .before .before .before .args .m)) (answer-counts (c .before .before .before .before .before .before .before .before .before .before .before .before .before .before .before .before .before .before .before .before .before .args .m)))
+
+fault-of-requires : tie.Need-fault-of-requires Inv-loop μ-loop
+fault-of-requires c κs = search needs
+
+shards-of-requires : tie.Need-shards-of-requires Inv-loop μ-loop
+shards-of-requires c κs = search needs
+
+at-first-requires : tie.Need-at-first-requires Inv-loop μ-loop
+at-first-requires c κs = search needs
+
+loop-holds : tie.Need-loop-holds Inv-loop μ-loop
+loop-holds c = (search needs, c .at-first .ensures ∙ walked-first _)
+
+mul-a : tie.Need-mul-a Inv-loop μ-loop
+mul-a c = search needs
+
+element-copy-out-a : tie.Need-element-copy-out-a Inv-loop μ-loop
+element-copy-out-a c = search needs
+
+further-requires : tie.Need-further-requires Inv-loop μ-loop
+further-requires c κs = search needs
+
+add-i : tie.Need-add-i Inv-loop μ-loop
+add-i c = search needs
+
+loop-less : tie.Need-loop-less Inv-loop μ-loop
+loop-less c = search needs
+
+loop-again : tie.Need-loop-again Inv-loop μ-loop
+loop-again c = (search needs, rw (c .further .ensures, walked-further, c .before .before .before .before .before .shards-of .ensures, c .before .before .before .loop .inv .1))
+
+formed-by-requires : tie.Need-formed-by-requires Inv-loop μ-loop
+formed-by-requires c κs = search needs
+
+place-of-requires : tie.Need-place-of-requires Inv-loop μ-loop
+place-of-requires c κs = search needs
+
+first-of-requires : tie.Need-first-of-requires Inv-loop μ-loop
+first-of-requires c κs = search needs
+
+returns : tie.Need-returns Inv-loop μ-loop
+returns c = refused-hears (c .before .before .before .before .before .before .before .before .before .before .before .before .before .before .before .args .d) (c .before .before .before .before .before .before .before .before .before .before .before .before .before .before .before .args .m) (no-is (c .before .before .before)) (not-yes _ (c .if1 .taken))
+
+no-answer-requires : tie.Need-no-answer-requires Inv-loop μ-loop
+no-answer-requires c κs = search needs
+
+returns-2 : tie.Need-returns-2 Inv-loop μ-loop
+returns-2 c = rw (c .before .no-answer .ensures) (done-hears (c .before .before .before .before .before .before .before .before .before .before .before .before .before .before .before .before .before .before .args .d) (c .before .before .before .before .before .before .before .before .before .before .before .before .before .before .before .before .before .before .args .m) (no-is (c .before .before .before .before .before .before)) (not-no _ (c .before .before .before .if1 .left)) (c .before .before .if2 .taken))
+
+higher-requires : tie.Need-higher-requires Inv-loop μ-loop
+higher-requires c κs = search needs
+
+returns-3 : tie.Need-returns-3 Inv-loop μ-loop
+returns-3 c = rw (c .higher .ensures) (behind-hears (c .before .before .before .before .before .before .before .before .before .before .before .before .before .before .before .before .before .before .args .d) (c .before .before .before .before .before .before .before .before .before .before .before .before .before .before .before .before .before .before .args .m) (no-is (c .before .before .before .before .before .before)) (not-no _ (c .before .before .before .if1 .left)) (c .before .before .if2 .left) (c .before .if3 .taken))
+
+cast-s : tie.Need-cast-s Inv-loop μ-loop
+cast-s c = search needs
+
+answer-of-requires : tie.Need-answer-of-requires Inv-loop μ-loop
+answer-of-requires c κs = search needs
+
+mul-a-2 : tie.Need-mul-a-2 Inv-loop μ-loop
+mul-a-2 c = search needs
+
+element-set-from-a : tie.Need-element-set-from-a Inv-loop μ-loop
+element-set-from-a c = place-of-ok (c .before .before)
+
+insert-requires : tie.Need-insert-requires Inv-loop μ-loop
+insert-requires c κs = let h = place-of-ok (c .before .before) in omega arith
+
+decided-requires : tie.Need-decided-requires Inv-loop μ-loop
+decided-requires c κs = search needs
+
+all-answered-requires : tie.Need-all-answered-requires Inv-loop μ-loop
+all-answered-requires c κs = search needs
+
+decide-requires : tie.Need-decide-requires Inv-loop μ-loop
+unfolding walkedTo
+decide-requires c κs = rw (c .all-answered .ensures, c .before .before .before .insert .ensures, c .before .before .before .before .before .before .before .before .before .before .before .before .before .before .before .before .before .before .before .before .shards-of .ensures, walked (c .before .before .before .before .before .before .before .before .before .before .before .before .before .before .before .before .before)) (answered-after (c .before .before .before .before .before .before .before .before .before .before .before .before .before .before .before .before .before .before .before .before .before .before .before .args .d) (full (c .before .before .before .before .before .before .before .before .before .before .before .before .before .before .before .before .before .before .before .before .before .before .before)) (c .before .before .before .before .before .before .before .before .before .before .before .before .before .before .before .before .before .before .before .before .before .before .before .args .m .server) (place-of-ok (c .before .before .before .before .before .before)) (c .before .before .before .before .answer-of .result) (rw (c .before .before .before .before .answer-of .ensures) (answer-counts (c .before .before .before .before .before .before .before .before .before .before .before .before .before .before .before .before .before .before .before .before .before .before .before .args .m))))
+
+no-answer-requires-2 : tie.Need-no-answer-requires-2 Inv-loop μ-loop
+no-answer-requires-2 c κs = search needs
+
+returns-4 : tie.Need-returns-4 Inv-loop μ-loop
+returns-4 c = rw (c .before .no-answer2 .ensures, c .before .before .decide .ensures, c .before .before .before .before .before .before .before .answer-of .ensures) (deciding-hears (c .before .before .before .before .before .before .before .before .before .before .before .before .before .before .before .before .before .before .before .before .before .before .before .before .before .before .args .d) (c .before .before .before .before .before .before .before .before .before .before .before .before .before .before .before .before .before .before .before .before .before .before .before .before .before .before .args .m) (no-is (c .before .before .before .before .before .before .before .before .before .before .before .before .before .before)) (not-no _ (c .before .before .before .before .before .before .before .before .before .before .before .if1 .left)) (c .before .before .before .before .before .before .before .before .before .before .if2 .left) (c .before .before .before .before .before .before .before .before .before .if3 .left) (sym (decided-is (c .before .before .before .before .before)) ∙ c .before .before .before .before .if4 .taken))
+
+returns-5 : tie.Need-returns-5 Inv-loop μ-loop
+returns-5 c = rw (c .before .before .before .answer-of .ensures) (waiting-hears (c .before .before .before .before .before .before .before .before .before .before .before .before .before .before .before .before .before .before .before .before .before .before .args .d) (c .before .before .before .before .before .before .before .before .before .before .before .before .before .before .before .before .before .before .before .before .before .before .args .m) (no-is (c .before .before .before .before .before .before .before .before .before .before)) (not-no _ (c .before .before .before .before .before .before .before .if1 .left)) (c .before .before .before .before .before .before .if2 .left) (c .before .before .before .before .before .if3 .left) (sym (decided-is (c .before)) ∙ c .if4 .left))
+
+pub hear-spec : {M : Type 1} → statement M
+hear-spec =
+    tie.close
+    (tie.spec
+    Inv-loop
+    μ-loop
+    fault-of-requires
+    shards-of-requires
+    at-first-requires
+    loop-holds
+    mul-a
+    element-copy-out-a
+    further-requires
+    add-i
+    loop-less
+    loop-again
+    formed-by-requires
+    place-of-requires
+    first-of-requires
+    returns
+    no-answer-requires
+    returns-2
+    higher-requires
+    returns-3
+    cast-s
+    answer-of-requires
+    mul-a-2
+    element-set-from-a
+    insert-requires
+    decided-requires
+    all-answered-requires
+    decide-requires
+    no-answer-requires-2
+    returns-4
+    returns-5)

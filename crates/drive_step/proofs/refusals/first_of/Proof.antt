@@ -1,0 +1,19 @@
+-- `drive_step::refusals::first_of` meets its contract: by its tests. Assumes nothing.
+use Rattle.drive_step.specs.Refusals.{firstOf}
+use Rattle.drive_step.proofs.refusals.first_of.Statement.{statement}
+use Rattle.drive_step.proofs.refusals.first_of.Tie as tie
+
+returns : tie.Need-returns
+unfolding firstOf
+returns c = rw (c .if1 .taken)
+
+returns-2 : tie.Need-returns-2
+unfolding firstOf
+returns-2 c = rw (c .before .if1 .left, c .if2 .taken)
+
+returns-3 : tie.Need-returns-3
+unfolding firstOf
+returns-3 c = rw (c .before .if1 .left, c .if2 .left)
+
+pub first-of-spec : {M : Type 1} → statement M
+first-of-spec = tie.close (tie.spec returns returns-2 returns-3)

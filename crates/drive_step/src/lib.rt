@@ -1,0 +1,154 @@
+// A reply to a drive: the refusals in their order, then the change.
+ghost use mathlib.Core.Path.{_≡_};
+ghost use Prim.Native.Nat.{max};
+ghost use Rattle.drive.specs.Hear.{answerOf, hear};
+use drive::Answer;
+use drive::Drive;
+use drive::Moved;
+use drive_decide::decide;
+use drive_decide::no_answer;
+use drive_form::at_first;
+use drive_form::counts::all_answered;
+use drive_form::counts::decided;
+use drive_form::formed_by;
+use drive_form::further;
+use faults::codes::BEHIND;
+use faults::codes::DONE;
+use faults::codes::PRE_ACCEPT_OK;
+use faults::codes::PREPARE_OK;
+use rules::MaybeSet;
+use rules::MaybeVote;
+use rules::MaybeWord;
+use rules::Set;
+use rules::transaction::shards_of;
+use wire::Message;
+
+pub mod refusals; // refusals.rt: which refusal a reply gets
+
+// What an OK says of arrival and acceptance.
+fn answer_of(m: Message) -> Answer
+    ensures { λ r. ⌜ r ≡ answerOf m ⌝ }
+{
+    let prepared = m.code == PREPARE_OK;
+    let arrived = m.code == PRE_ACCEPT_OK;
+    let none = Set {
+        w0: 0,
+        w1: 0,
+        w2: 0,
+        w3: 0,
+    };
+    let no_vote = MaybeVote {
+        some: 0,
+        ballot: 0,
+        set: none,
+    };
+    if prepared {
+        let arrival = m.arrival;
+        let accepted = m.accepted;
+        return Answer {
+            counted: 1,
+            arrival: arrival,
+            accepted: accepted,
+        };
+    }
+    if arrived {
+        return Answer {
+            counted: 1,
+            arrival: MaybeWord {
+                some: 1,
+                word: m.word,
+            },
+            accepted: no_vote,
+        };
+    }
+    Answer {
+        counted: 1,
+        arrival: MaybeWord { some: 0, word: 0 },
+        accepted: no_vote,
+    }
+}
+
+// The higher of two promises.
+pub fn higher(a: u32, b: u32) -> u32
+    ensures { λ r. ⌜ r ≡ max a b ⌝ }
+{
+    if a < b { b } else { a }
+}
+
+// The drive after the reply `m`, or the refusal and the drive as lent. The drive is copied once and changed in place.
+pub fn hear(d: Drive, m: Message) -> Moved
+    ensures { λ r. ⌜ r ≡ hear d m ⌝ }
+{
+    let mut n = d;
+    let fault = refusals::fault_of(m);
+    let shards = shards_of(n.pieces);
+    let mut l = at_first();
+    let mut i: usize = 0;
+    while i < 12 {
+        let a = n.answers[i];
+        l = further(l, n.t, shards, n.phase, i, a);
+        i += 1;
+    }
+    let formed = formed_by(
+        n.t,
+        n.coordinator,
+        n.ballot,
+        n.phase,
+        n.seen,
+        n.pieces,
+        n.chosen,
+        shards,
+        l,
+    );
+    let place = refusals::place_of(n.t, n.ballot, n.phase, n.pieces, shards, l.answered, m);
+    let no = refusals::first_of(formed, fault, place);
+    let taken = no == 0;
+    let done = m.code == DONE;
+    let behind = m.code == BEHIND;
+    if !taken {
+        return Moved {
+            refusal: no,
+            drive: n,
+        };
+    }
+    if done {
+        let none = [no_answer(); 12];
+        let v = m.set;
+        let chosen = MaybeSet { some: 1, set: v };
+        n.phase = 3;
+        n.answers = none;
+        n.chosen = chosen;
+        return Moved {
+            refusal: 0,
+            drive: n,
+        };
+    }
+    if behind {
+        n.seen = higher(n.seen, m.promise);
+        return Moved {
+            refusal: 0,
+            drive: n,
+        };
+    }
+    let s = m.server as usize;
+    let a = answer_of(m);
+    n.answers[s] = a;
+    let answered = masks::insert(l.answered, s);
+    let enough = decided(n.phase, shards, answered);
+    if enough {
+        let turn = decide(n, all_answered(shards, answered));
+        let none = [no_answer(); 12];
+        let chosen = turn.chosen;
+        n.phase = turn.phase;
+        n.answers = none;
+        n.chosen = chosen;
+        return Moved {
+            refusal: 0,
+            drive: n,
+        };
+    }
+    Moved {
+        refusal: 0,
+        drive: n,
+    }
+}
