@@ -2,6 +2,8 @@
 ghost use mathlib.Core.Path.{_≡_};
 ghost use Rattle.door.specs.Told.{counted};
 use crate::Counted;
+use drive::Drive;
+use drive::Moved;
 use server::Begun;
 use server::Ran;
 use server::Server;
@@ -31,4 +33,16 @@ pub fn ran_server(o: Ran) -> Server
     ensures { λ r. ⌜ r ≡ o .server ⌝ }
 {
     o.server
+}
+
+pub fn moved_refusal(o: Moved) -> u32
+    ensures { λ r. ⌜ r ≡ o .refusal ⌝ }
+{
+    o.refusal
+}
+
+pub fn moved_drive(o: Moved) -> Drive
+    ensures { λ r. ⌜ r ≡ o .drive ⌝ }
+{
+    o.drive
 }
