@@ -1,4 +1,5 @@
 // The door of the library, by value: what a host is told of the states and bytes that it lends. `station` lends them.
+pub mod exchange; // exchange.rt: bytes in, bytes out
 pub mod readings; // readings.rt: what a server holds, a part at a time
 pub mod told; // told.rt: what an outcome tells, and what it leaves
 

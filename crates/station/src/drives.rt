@@ -1,5 +1,6 @@
 // A drive lent by the host. On a refusal the drive, and the output where one is lent, stay as they were lent.
 ghost use mathlib.Core.Path.{_≡_};
+ghost use Rattle.door.specs.Exchange.{takeReply};
 ghost use Rattle.drive.specs.Host.{start, recover, again, moveOn};
 use drive::Drive;
 use rules::Pieces;
@@ -56,6 +57,18 @@ pub extern "C" fn drobulets_drive_move_on(d: &mut Drive) -> u32
     ensures { λ r. ⌜ (r ≡ moveOn (now (d .entry)) .refusal) × (now (d .exit) ≡ moveOn (now (d .entry)) .drive) ⌝ }
 {
     let o = drive_host::move_on(*d);
+    let answer = door::told::moved_refusal(o);
+    *d = door::told::moved_drive(o);
+    answer
+}
+
+// A reply. Bytes that do not decode are refused first (10, 12, 11), and then the step refuses in its own order.
+#[no_mangle]
+pub extern "C" fn drobulets_drive_take(d: &mut Drive, input: &[u8]) -> u32
+    ensures { λ r. ⌜ (r ≡ takeReply (now (d .entry)) (now (input .entry)) .refusal)
+        × (now (d .exit) ≡ takeReply (now (d .entry)) (now (input .entry)) .drive) ⌝ }
+{
+    let o = door::exchange::take_reply(*d, input);
     let answer = door::told::moved_refusal(o);
     *d = door::told::moved_drive(o);
     answer
