@@ -1,2 +1,3 @@
-pub mod ReadParts
 pub mod ReadWhole
+pub mod WriteWhole
+pub mod EncodeWhole

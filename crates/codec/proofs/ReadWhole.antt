@@ -1,15 +1,15 @@
 -- A message read in sections is the message that its format reads: the header, the front and the rest, and the front alone where there is no rest.
 -- Assumes nothing.
 use mathlib.Core.Path.{_≡_, refl, sym, ap, _∙_, subst}
-use mathlib.Core.Bool.{Bool, false, cond, _||_}
+use mathlib.Core.Bool.{false, cond, _||_}
 use mathlib.Core.List.{List}
 use Prim.Native.Nat.{ℕ}
-use lib.Dec.{eqb, leb}
+use lib.Dec.{leb}
 use lib.ListN.{length}
 use borrow.Author.Tests.{eq-eqb, ne-eqb}
 use Rattle.masks.proofs.Bools.{or-no-l, or-no-r}
 use Rattle.xdr.specs.Read.{Got, judged}
-use Rattle.xdr.specs.Form.{Form, Reads, u32, u64, when, reads-then, reads-by, reads-none}
+use Rattle.xdr.specs.Form.{Reads, u32, u64, when, reads-then, reads-by, reads-none}
 use Rattle.xdr.specs.declared.Cursor.{Cursor}
 use Rattle.rules.specs.declared.Pieces.{Pieces}
 use Rattle.rules.specs.declared.Set.{Set}

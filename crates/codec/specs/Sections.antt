@@ -37,7 +37,7 @@ noRest = ((((noPieces, noSet), 0), (noWord, noVote)), noValues)
 
 -- a message has some of the rest
 unfoldable pub long : Shape → Bool
-long h = (((h .pieces || h .set) || h .word) || h .prepared) || h .values
+long h = h .pieces || h .set || h .word || h .prepared || h .values
 
 abbrev pub frontOf : Message → Front
 frontOf m = (((m .t, m .server), m .ballot), m .promise)

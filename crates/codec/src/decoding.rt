@@ -6,12 +6,12 @@ ghost use Rattle.xdr.specs.Form.{Reads};
 ghost use Rattle.wire.specs.Messages.{blank};
 ghost use Rattle.wire.specs.Bytes.{code, ended, decodedAs};
 ghost use Rattle.codec.specs.Sections.{front, rest, noRest, joined};
-use crate::get_arrays::get_pieces_if;
-use crate::get_arrays::get_values_if;
-use crate::get_parts::get_prepared_if;
-use crate::get_parts::get_set_if;
-use crate::get_parts::get_u32_if;
-use crate::get_parts::get_u64_if;
+use parts::get_arrays::get_pieces_if;
+use parts::get_arrays::get_values_if;
+use parts::get_parts::get_prepared_if;
+use parts::get_parts::get_set_if;
+use parts::get_parts::get_u32_if;
+use parts::get_parts::get_u64_if;
 use crate::shapes::shape_of;
 use rules::MaybeVote;
 use rules::MaybeWord;
@@ -82,13 +82,30 @@ fn fault_of(n: usize, c: Cursor) -> u32
 fn refused(refusal: u32) -> Decoded
     ensures { λ r. ⌜ r ≡ record { refusal = refusal; message = blank } ⌝ }
 {
-    let list = [Piece { shard: 0, key: 0, kind: 0, operand: 0 }; 8];
+    let list = [Piece {
+        shard: 0,
+        key: 0,
+        kind: 0,
+        operand: 0,
+    }; 8];
     let pieces = Pieces { list, count: 0 };
-    let set = Set { w0: 0, w1: 0, w2: 0, w3: 0 };
+    let set = Set {
+        w0: 0,
+        w1: 0,
+        w2: 0,
+        w3: 0,
+    };
     let arrival = MaybeWord { some: 0, word: 0 };
-    let accepted = MaybeVote { some: 0, ballot: 0, set };
+    let accepted = MaybeVote {
+        some: 0,
+        ballot: 0,
+        set,
+    };
     let results = [Value { value: 0, kept: 0 }; 8];
-    let values = Values { list: results, count: 0 };
+    let values = Values {
+        list: results,
+        count: 0,
+    };
     let message = Message {
         code: 0,
         t: 0,
@@ -114,13 +131,30 @@ pub fn short_message(n: usize, k: u32, f: GotFront) -> Decoded
     if fault != 0 {
         return refused(fault);
     }
-    let list = [Piece { shard: 0, key: 0, kind: 0, operand: 0 }; 8];
+    let list = [Piece {
+        shard: 0,
+        key: 0,
+        kind: 0,
+        operand: 0,
+    }; 8];
     let pieces = Pieces { list, count: 0 };
-    let set = Set { w0: 0, w1: 0, w2: 0, w3: 0 };
+    let set = Set {
+        w0: 0,
+        w1: 0,
+        w2: 0,
+        w3: 0,
+    };
     let arrival = MaybeWord { some: 0, word: 0 };
-    let accepted = MaybeVote { some: 0, ballot: 0, set };
+    let accepted = MaybeVote {
+        some: 0,
+        ballot: 0,
+        set,
+    };
     let results = [Value { value: 0, kept: 0 }; 8];
-    let values = Values { list: results, count: 0 };
+    let values = Values {
+        list: results,
+        count: 0,
+    };
     let message = Message {
         code: k,
         t: f.t,
@@ -134,7 +168,10 @@ pub fn short_message(n: usize, k: u32, f: GotFront) -> Decoded
         accepted,
         values,
     };
-    Decoded { refusal: 0, message }
+    Decoded {
+        refusal: 0,
+        message,
+    }
 }
 
 // A message that has some of the rest behind its front.
@@ -175,5 +212,8 @@ pub fn long_message(s: &[u8], k: u32, f: GotFront, h: Shape) -> Decoded
         accepted,
         values,
     };
-    Decoded { refusal: 0, message }
+    Decoded {
+        refusal: 0,
+        message,
+    }
 }

@@ -1,19 +1,33 @@
 // The bytes of a message, written and read.
 ghost use mathlib.Core.Path.{_≡_};
 ghost use Rattle.wire.specs.Bytes.{decode};
+ghost use Rattle.wire.specs.Encoding.{encode};
+ghost use Rattle.codec.specs.Answers.{answer};
 use decoding::get_front;
 use decoding::get_header;
 use decoding::long_message;
 use decoding::short_message;
+use encoding::deliver;
+use encoding::put_body;
+use encoding::put_front;
+use encoding::put_header;
+use encoding::unwritable;
 use shapes::has_rest;
 use shapes::shape_of;
 use wire::Decoded;
+use wire::Message;
 use xdr::Cursor;
 
-pub mod shapes;
-pub mod get_parts;
-pub mod get_arrays;
 pub mod decoding;
+pub mod encoding;
+pub mod shapes;
+
+// What encoding answers: the refusal or 0, and how many bytes the message takes, 0 on a refusal.
+#[repr(C)]
+pub struct Encoded {
+    pub refusal: u32,
+    pub length: u32,
+}
 
 // The message that the bytes say, or the number of the first fault and the blank message.
 pub fn decode(bytes: &[u8]) -> Decoded
@@ -29,4 +43,33 @@ pub fn decode(bytes: &[u8]) -> Decoded
         return long_message(bytes, code, f, h);
     }
     short_message(bytes.len(), code, f)
+}
+
+// The message's bytes at the front of the output, built in a cleared buffer and then copied; or a refusal, and the output as it was.
+pub fn encode(message: Message, out: &mut [u8]) -> Encoded
+    ensures { λ r. ⌜ (r ≡ answer (encode message (now (out .entry)))) × (now (out .exit) ≡ encode message (now (out .entry)) .buffer) ⌝ }
+{
+    let h = shape_of(message.code);
+    if unwritable(h, message.pieces.count, message.values.count) {
+        return Encoded {
+            refusal: 12,
+            length: 0,
+        };
+    }
+    let mut buffer = [0u8; 176];
+    let a = put_header(&mut buffer, message.code);
+    if has_rest(h) {
+        let n = put_body(&mut buffer, a, h, message);
+        return deliver(out, &buffer, n);
+    }
+    let n = put_front(
+        &mut buffer,
+        a,
+        h,
+        message.t,
+        message.server,
+        message.ballot,
+        message.promise,
+    );
+    deliver(out, &buffer, n)
 }

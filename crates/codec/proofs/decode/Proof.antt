@@ -4,45 +4,29 @@ use Rattle.codec.proofs.ReadWhole.{long-decoded, short-decoded}
 use borrow.Author.Needs.{needs}
 use Rattle.codec.proofs.decode.Statement.{statement}
 use Rattle.codec.proofs.decode.Tie as tie
-use Rattle.codec.proofs.decode.Reads as reads
-use Rattle.codec.proofs.decode.Lts as lts
-use Rattle.codec.proofs.decoding.get_front.Reads as get-front-reads
-use Rattle.codec.proofs.decoding.get_header.Reads as get-header-reads
-use Rattle.codec.proofs.decoding.long_message.Reads as long-message-reads
-use Rattle.codec.proofs.decoding.short_message.Reads as short-message-reads
-use Rattle.codec.proofs.shapes.has_rest.Reads as has-rest-reads
-use Rattle.codec.proofs.shapes.shape_of.Reads as shape-of-reads
 
--- src/lib.rt:23:9
 get-header-requires : tie.Need-get-header-requires
 get-header-requires c κs = search needs
 
--- src/lib.rt:26:9
 shape-of-requires : tie.Need-shape-of-requires
 shape-of-requires c κs = search needs
 
--- src/lib.rt:27:9
 get-front-requires : tie.Need-get-front-requires
 get-front-requires c κs = search needs
 
--- src/lib.rt:28:8
 has-rest-requires : tie.Need-has-rest-requires
 has-rest-requires c κs = search needs
 
--- src/lib.rt:29:9
 long-message-requires : tie.Need-long-message-requires
 long-message-requires c κs = search needs
 
--- src/lib.rt:29:9
 returns : tie.Need-returns
 returns c =
     c .long-message .ensures ∙ long-decoded _ (c .before .before .before .before .shape-of .result) (c .before .before .before .before .shape-of .ensures) (c .before .before .before .before .before .before .get-header .ensures) (c .before .before .before .get-front .ensures)
 
--- src/lib.rt:31:5
 short-message-requires : tie.Need-short-message-requires
 short-message-requires c κs = search needs
 
--- src/lib.rt:19:1
 returns-2 : tie.Need-returns-2
 returns-2 c =
     c .short-message .ensures ∙ short-decoded _ (c .before .before .before .before .shape-of .result) (c .before .before .before .before .shape-of .ensures) (c .before .before .before .before .before .before .get-header .ensures) (c .before .before .before .get-front .ensures) (sym (c .before .before .has-rest .ensures) ∙ c .before .if1 .left)

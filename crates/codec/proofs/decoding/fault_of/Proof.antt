@@ -4,15 +4,10 @@ use Rattle.xdr.specs.declared.Cursor.{Cursor}
 use borrow.Author.Needs.{needs}
 use Rattle.codec.proofs.decoding.fault_of.Statement.{statement}
 use Rattle.codec.proofs.decoding.fault_of.Tie as tie
-use Rattle.codec.proofs.decoding.fault_of.Reads as reads
-use Rattle.codec.proofs.decoding.fault_of.Lts as lts
-use Rattle.xdr.proofs.judge.Reads as judge-reads
 
--- src/decoding.rt:78:9
 judge-requires : tie.Need-judge-requires
 judge-requires c κs = search needs
 
--- src/decoding.rt:74:1
 returns : tie.Need-returns
 returns c = ap (λ (k : Cursor). k .fault) (c .judge .ensures)
 

@@ -4,24 +4,16 @@ use Rattle.codec.proofs.ReadWhole.{as-bad, as-good}
 use borrow.Author.Needs.{needs}
 use Rattle.codec.proofs.decoding.short_message.Statement.{statement}
 use Rattle.codec.proofs.decoding.short_message.Tie as tie
-use Rattle.codec.proofs.decoding.short_message.Reads as reads
-use Rattle.codec.proofs.decoding.short_message.Lts as lts
-use Rattle.codec.proofs.decoding.fault_of.Reads as fault-of-reads
-use Rattle.codec.proofs.decoding.refused.Reads as refused-reads
 
--- src/decoding.rt:113:9
 fault-of-requires : tie.Need-fault-of-requires
 fault-of-requires c κs = search needs
 
--- src/decoding.rt:115:9
 refused-requires : tie.Need-refused-requires
 refused-requires c κs = search needs
 
--- src/decoding.rt:115:9
 returns : tie.Need-returns
 returns c = c .refused .ensures ∙ as-bad _ _ _ (c .before .before .fault-of .ensures) (c .before .if1 .taken)
 
--- src/decoding.rt:109:1
 returns-2 : tie.Need-returns-2
 returns-2 c = as-good _ _ _ (c .before .fault-of .ensures) (c .if1 .left)
 

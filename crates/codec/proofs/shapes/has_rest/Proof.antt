@@ -3,10 +3,7 @@ use mathlib.Core.Path.{refl}
 use Rattle.codec.specs.Sections.{long}
 use Rattle.codec.proofs.shapes.has_rest.Statement.{statement}
 use Rattle.codec.proofs.shapes.has_rest.Tie as tie
-use Rattle.codec.proofs.shapes.has_rest.Reads as reads
-use Rattle.codec.proofs.shapes.has_rest.Lts as lts
 
--- src/shapes.rt:64:1
 returns : tie.Need-returns
 unfolding long
 returns c = refl

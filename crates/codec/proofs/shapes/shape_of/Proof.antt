@@ -4,137 +4,105 @@ use Rattle.wire.specs.Codes.{shapeOf}
 use borrow.Author.Needs.{needs}
 use Rattle.codec.proofs.shapes.shape_of.Statement.{statement}
 use Rattle.codec.proofs.shapes.shape_of.Tie as tie
-use Rattle.codec.proofs.shapes.shape_of.Reads as reads
-use Rattle.codec.proofs.shapes.shape_of.Lts as lts
-use Rattle.codec.proofs.shapes.has.Reads as has-reads
 
--- src/shapes.rt:36:14
 has-requires : tie.Need-has-requires
 has-requires c κs = search needs
 
--- src/shapes.rt:37:14
 has-requires-2 : tie.Need-has-requires-2
 has-requires-2 c κs = search needs
 
--- src/shapes.rt:38:14
 has-requires-3 : tie.Need-has-requires-3
 has-requires-3 c κs = search needs
 
--- src/shapes.rt:39:14
 has-requires-4 : tie.Need-has-requires-4
 has-requires-4 c κs = search needs
 
--- src/shapes.rt:40:14
 has-requires-5 : tie.Need-has-requires-5
 has-requires-5 c κs = search needs
 
--- src/shapes.rt:41:14
 has-requires-6 : tie.Need-has-requires-6
 has-requires-6 c κs = search needs
 
--- src/shapes.rt:42:15
 has-requires-7 : tie.Need-has-requires-7
 has-requires-7 c κs = search needs
 
--- src/shapes.rt:43:15
 has-requires-8 : tie.Need-has-requires-8
 has-requires-8 c κs = search needs
 
--- src/shapes.rt:44:15
 has-requires-9 : tie.Need-has-requires-9
 has-requires-9 c κs = search needs
 
--- src/shapes.rt:45:15
 has-requires-10 : tie.Need-has-requires-10
 has-requires-10 c κs = search needs
 
--- src/shapes.rt:46:15
 has-requires-11 : tie.Need-has-requires-11
 has-requires-11 c κs = search needs
 
--- src/shapes.rt:47:15
 has-requires-12 : tie.Need-has-requires-12
 has-requires-12 c κs = search needs
 
--- src/shapes.rt:48:15
 has-requires-13 : tie.Need-has-requires-13
 has-requires-13 c κs = search needs
 
--- src/shapes.rt:49:15
 has-requires-14 : tie.Need-has-requires-14
 has-requires-14 c κs = search needs
 
--- src/shapes.rt:32:1
 returns : tie.Need-returns
 unfolding shapeOf
 returns c = rw (c .before .match .keys1) (c .has .ensures)
 
--- src/shapes.rt:32:1
 returns-2 : tie.Need-returns-2
 unfolding shapeOf
 returns-2 c = rw (c .before .match .keys2) (c .has2 .ensures)
 
--- src/shapes.rt:32:1
 returns-3 : tie.Need-returns-3
 unfolding shapeOf
 returns-3 c = rw (c .before .match .keys3) (c .has3 .ensures)
 
--- src/shapes.rt:32:1
 returns-4 : tie.Need-returns-4
 unfolding shapeOf
 returns-4 c = rw (c .before .match .keys4) (c .has4 .ensures)
 
--- src/shapes.rt:32:1
 returns-5 : tie.Need-returns-5
 unfolding shapeOf
 returns-5 c = rw (c .before .match .keys5) (c .has5 .ensures)
 
--- src/shapes.rt:32:1
 returns-6 : tie.Need-returns-6
 unfolding shapeOf
 returns-6 c = rw (c .before .match .keys6) (c .has6 .ensures)
 
--- src/shapes.rt:32:1
 returns-7 : tie.Need-returns-7
 unfolding shapeOf
 returns-7 c = rw (c .before .match .keys7) (c .has7 .ensures)
 
--- src/shapes.rt:32:1
 returns-8 : tie.Need-returns-8
 unfolding shapeOf
 returns-8 c = rw (c .before .match .keys8) (c .has8 .ensures)
 
--- src/shapes.rt:32:1
 returns-9 : tie.Need-returns-9
 unfolding shapeOf
 returns-9 c = rw (c .before .match .keys9) (c .has9 .ensures)
 
--- src/shapes.rt:32:1
 returns-10 : tie.Need-returns-10
 unfolding shapeOf
 returns-10 c = rw (c .before .match .keys10) (c .has10 .ensures)
 
--- src/shapes.rt:32:1
 returns-11 : tie.Need-returns-11
 unfolding shapeOf
 returns-11 c = rw (c .before .match .keys11) (c .has11 .ensures)
 
--- src/shapes.rt:32:1
 returns-12 : tie.Need-returns-12
 unfolding shapeOf
 returns-12 c = rw (c .before .match .keys12) (c .has12 .ensures)
 
--- src/shapes.rt:32:1
 returns-13 : tie.Need-returns-13
 unfolding shapeOf
 returns-13 c = rw (c .before .match .keys13) (c .has13 .ensures)
 
--- src/shapes.rt:32:1
 returns-14 : tie.Need-returns-14
 unfolding shapeOf
 returns-14 c = rw (c .before .match .keys14) (c .has14 .ensures)
 
--- src/shapes.rt:32:1
 returns-15 : tie.Need-returns-15
 unfolding shapeOf
 returns-15 c =

@@ -1,0 +1,15 @@
+-- What encoding answers, of the definition's answer: the refusal and the message's length. The buffer is the third part.
+use mathlib.Core.List.{List}
+use Prim.Native.Nat.{ℕ}
+use lib.Dec.{ltb}
+use lib.ListN.{length, take}
+use Rattle.rules.specs.Choice.{_if_else_}
+use Rattle.wire.specs.Encoding.{Encoding, refused, written}
+use Rattle.codec.specs.declared.Encoded.{Encoded}
+
+abbrev pub answer : Encoding → Encoded
+answer e = record { refusal = e .refusal; length = e .size }
+
+-- the first n bytes of s, at the front of the buffer z: 14 where it is shorter
+unfoldable pub delivered : List ℕ → ℕ → List ℕ → Encoding
+delivered s n z = refused 14 z if ltb (length z) n else written (take n s) z

@@ -1,0 +1,8 @@
+// The parts that messages are made of, read and written.
+pub mod get_parts;
+
+pub mod get_arrays;
+
+pub mod put_parts;
+
+pub mod put_arrays;
