@@ -12,15 +12,15 @@ use encoding::put_body;
 use encoding::put_front;
 use encoding::put_header;
 use encoding::unwritable;
+use messages::codes::shape_of;
 use shapes::has_rest;
-use shapes::shape_of;
 use wire::Decoded;
 use wire::Message;
 use xdr::Cursor;
 
-pub mod decoding;
-pub mod encoding;
-pub mod shapes;
+mod decoding; // decoding.rt: a message read by its sections
+mod encoding; // encoding.rt: a message written by its sections
+mod shapes; // shapes.rt: whether a message has more than its plain numbers
 
 // What encoding answers: the refusal or 0, and how many bytes the message takes, 0 on a refusal.
 #[repr(C)]

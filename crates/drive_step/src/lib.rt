@@ -12,10 +12,10 @@ use drive_form::counts::all_answered;
 use drive_form::counts::decided;
 use drive_form::formed_by;
 use drive_form::further;
-use faults::codes::BEHIND;
-use faults::codes::DONE;
-use faults::codes::PRE_ACCEPT_OK;
-use faults::codes::PREPARE_OK;
+use messages::codes::BEHIND;
+use messages::codes::DONE;
+use messages::codes::PRE_ACCEPT_OK;
+use messages::codes::PREPARE_OK;
 use rules::MaybeSet;
 use rules::MaybeVote;
 use rules::MaybeWord;
@@ -105,50 +105,46 @@ pub fn hear(d: Drive, m: Message) -> Moved
     let taken = no == 0;
     let done = m.code == DONE;
     let behind = m.code == BEHIND;
-    if !taken {
-        return Moved {
-            refusal: no,
-            drive: n,
-        };
-    }
-    if done {
-        let none = [no_answer(); 12];
-        let v = m.set;
-        let chosen = MaybeSet { some: 1, set: v };
-        n.phase = 3;
-        n.answers = none;
-        n.chosen = chosen;
-        return Moved {
-            refusal: 0,
-            drive: n,
-        };
-    }
-    if behind {
-        n.seen = higher(n.seen, m.promise);
-        return Moved {
-            refusal: 0,
-            drive: n,
-        };
-    }
-    let s = m.server as usize;
-    let a = answer_of(m);
-    n.answers[s] = a;
-    let answered = masks::insert(l.answered, s);
-    let enough = decided(n.phase, shards, answered);
-    if enough {
-        let turn = decide(n, all_answered(shards, answered));
-        let none = [no_answer(); 12];
-        let chosen = turn.chosen;
-        n.phase = turn.phase;
-        n.answers = none;
-        n.chosen = chosen;
-        return Moved {
-            refusal: 0,
-            drive: n,
-        };
+    if taken {
+        if done {
+            let none = [no_answer(); 12];
+            let v = m.set;
+            let chosen = MaybeSet { some: 1, set: v };
+            n.phase = 3;
+            n.answers = none;
+            n.chosen = chosen;
+            return Moved {
+                refusal: 0,
+                drive: n,
+            };
+        }
+        if behind {
+            n.seen = higher(n.seen, m.promise);
+            return Moved {
+                refusal: 0,
+                drive: n,
+            };
+        }
+        let s = m.server as usize;
+        let a = answer_of(m);
+        n.answers[s] = a;
+        let answered = masks::insert(l.answered, s);
+        let enough = decided(n.phase, shards, answered);
+        if enough {
+            let turn = decide(n, all_answered(shards, answered));
+            let none = [no_answer(); 12];
+            let chosen = turn.chosen;
+            n.phase = turn.phase;
+            n.answers = none;
+            n.chosen = chosen;
+            return Moved {
+                refusal: 0,
+                drive: n,
+            };
+        }
     }
     Moved {
-        refusal: 0,
+        refusal: no,
         drive: n,
     }
 }

@@ -12,13 +12,11 @@ use rules::transaction::pieces_kept;
 use rules::transaction::too_many;
 use wire::Message;
 
-pub mod codes; // codes.rt: the fields that a code has, and who takes it
-
 // 12: a count above 8.
 pub fn over_count(m: Message) -> bool
     ensures { λ r. ⌜ r ≡ overCount m ⌝ }
 {
-    let shape = codes::shape_of(m.code);
+    let shape = messages::codes::shape_of(m.code);
     shape.pieces & too_many(m.pieces)
 }
 
@@ -26,20 +24,20 @@ pub fn over_count(m: Message) -> bool
 pub fn bad_numbers(m: Message) -> bool
     ensures { λ r. ⌜ r ≡ badNumbers m ⌝ }
 {
-    let shape = codes::shape_of(m.code);
+    let shape = messages::codes::shape_of(m.code);
     bad_number(m.t)
         | (shape.server & bad_server(m.server))
         | (shape.ballot & bad_ballot(m.ballot))
         | (shape.promise & bad_ballot(m.promise))
         | (shape.prepared & (m.accepted.some != 0) & bad_ballot(m.accepted.ballot))
-        | ((m.code == codes::PREPARE) & (m.ballot == 0))
+        | ((m.code == messages::codes::PREPARE) & (m.ballot == 0))
 }
 
 // 2: pieces that break their rule.
 pub fn bad_pieces(m: Message) -> bool
     ensures { λ r. ⌜ r ≡ badPieces m ⌝ }
 {
-    let shape = codes::shape_of(m.code);
+    let shape = messages::codes::shape_of(m.code);
     if shape.pieces {
         return !pieces_kept(m.pieces);
     }
@@ -60,7 +58,7 @@ fn bad_where(there: bool, t: u32, touched: u64, v: Set) -> bool
 pub fn bad_sets(touched: u64, m: Message) -> bool
     ensures { λ r. ⌜ r ≡ badSets touched m ⌝ }
 {
-    let shape = codes::shape_of(m.code);
+    let shape = messages::codes::shape_of(m.code);
     let t = m.t as usize;
     bad_where(shape.set, m.t, touched, m.set)
         | (shape.word & masks::has(m.word, t))

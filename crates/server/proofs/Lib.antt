@@ -1,2 +1,12 @@
 pub mod RunGroups
 pub mod RunTurns
+pub mod Unchanged
+pub mod Passed
+pub mod Did
+pub mod RunLeaves
+pub mod FormParts
+pub mod ServeKeepsForm
+pub mod LogGrows
+pub mod RunsOneByOne
+pub mod RunKeepsForm
+pub mod KeepsForm

@@ -1,10 +1,10 @@
 // What each message does to the record of its T at the server `id`, and the reply.
-use faults::codes::ACCEPT;
-use faults::codes::COMMIT;
-use faults::codes::DONE;
-use faults::codes::INQUIRE;
-use faults::codes::PRE_ACCEPT;
-use faults::codes::PREPARE;
+use messages::codes::ACCEPT;
+use messages::codes::COMMIT;
+use messages::codes::DONE;
+use messages::codes::INQUIRE;
+use messages::codes::PRE_ACCEPT;
+use messages::codes::PREPARE;
 use rules::MaybeSet;
 use rules::MaybeVote;
 use rules::MaybeWord;
@@ -12,7 +12,7 @@ use server::Changed;
 use server::Record;
 use wire::Message;
 ghost use mathlib.Core.Path.{_≡_};
-ghost use Rattle.server.specs.Changes.{promised, withArrival, withAccepted, withCommitted, becomes, asked, arrive, preAccepted, accepted, prepared, committed, inquired, fetched, change};
+ghost use Rattle.server.specs.Changes.{promised, asked, arrive, preAccepted, accepted, prepared, committed, inquired, fetched, change};
 
 // The ballot is promised, and the pieces are held.
 fn promised(m: Message, v: Record) -> Record
@@ -48,14 +48,14 @@ fn asked(id: u32, v: Record, m: Message, c: Changed) -> Changed
     if settled {
         let pieces = v.pieces;
         let set = v.committed.set;
-        let reply = crate::replies::done(m.t, pieces, set);
+        let reply = messages::replies::done(m.t, pieces, set);
         return Changed {
             after: v,
             reply: reply,
         };
     }
     if late {
-        let reply = crate::replies::behind(m.t, id, m.ballot, v.promise);
+        let reply = messages::replies::behind(m.t, id, m.ballot, v.promise);
         return Changed {
             after: v,
             reply: reply,
@@ -70,7 +70,7 @@ fn pre_accepted(id: u32, w: u64, v: Record, m: Message) -> Changed
 {
     let held = promised(m, v);
     let after = arrive(w, held);
-    let reply = crate::replies::pre_accept_ok(m.t, id, m.ballot, after.arrival.word);
+    let reply = messages::replies::pre_accept_ok(m.t, id, m.ballot, after.arrival.word);
     Changed {
         after: after,
         reply: reply,
@@ -89,7 +89,7 @@ fn accepted(id: u32, v: Record, m: Message) -> Changed
         set: set,
     };
     after.accepted = vote;
-    let reply = crate::replies::accept_ok(m.t, id, m.ballot);
+    let reply = messages::replies::accept_ok(m.t, id, m.ballot);
     Changed {
         after: after,
         reply: reply,
@@ -103,7 +103,7 @@ fn prepared(id: u32, v: Record, m: Message) -> Changed
     let arrival = v.arrival;
     let accepted = v.accepted;
     let after = promised(m, v);
-    let reply = crate::replies::prepare_ok(m.t, id, m.ballot, arrival, accepted);
+    let reply = messages::replies::prepare_ok(m.t, id, m.ballot, arrival, accepted);
     Changed {
         after: after,
         reply: reply,
@@ -115,7 +115,7 @@ fn committed(id: u32, v: Record, m: Message) -> Changed
     ensures { λ r. ⌜ r ≡ committed id v m ⌝ }
 {
     let repeat = v.committed.some != 0;
-    let reply = crate::replies::commit_ok(m.t, id);
+    let reply = messages::replies::commit_ok(m.t, id);
     if repeat {
         return Changed {
             after: v,
@@ -142,13 +142,13 @@ fn inquired(id: u32, v: Record, m: Message) -> Changed
     if committed {
         let pieces = v.pieces;
         let set = v.committed.set;
-        let reply = crate::replies::done(m.t, pieces, set);
+        let reply = messages::replies::done(m.t, pieces, set);
         return Changed {
             after: v,
             reply: reply,
         };
     }
-    let reply = crate::replies::not_yet(m.t, id);
+    let reply = messages::replies::not_yet(m.t, id);
     Changed {
         after: v,
         reply: reply,
@@ -162,13 +162,13 @@ fn fetched(id: u32, v: Record, m: Message) -> Changed
     let ran = v.ran != 0;
     if ran {
         let values = v.values;
-        let reply = crate::replies::results(m.t, id, values);
+        let reply = messages::replies::results(m.t, id, values);
         return Changed {
             after: v,
             reply: reply,
         };
     }
-    let reply = crate::replies::not_yet(m.t, id);
+    let reply = messages::replies::not_yet(m.t, id);
     Changed {
         after: v,
         reply: reply,

@@ -1,3 +1,2 @@
 // What a message that is not refused does to the record of its T, and the reply.
 pub mod changes;
-pub mod replies;

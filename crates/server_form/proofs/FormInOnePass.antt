@@ -1,7 +1,7 @@
 -- The form read in one pass is the form. The log's word holds the numbers among its entries, so what the form asks of each entry is asked of
 -- each number in that word, with the record of that number. Assumes nothing.
 use Prim.Native.Nat.{ℕ, zero, suc, _+_, _<_}
-use mathlib.Core.Path.{_≡_, refl, sym, ap, ap₂, _∙_}
+use mathlib.Core.Path.{_≡_, refl, sym, ap, _∙_}
 use mathlib.Core.Logic.{⊎-elim}
 use mathlib.Core.Bool.{Bool, true, false, not, cond, _&&_, _||_, and-assoc, and-true, and-false}
 use native.Mathlib.Omega.{arith}
@@ -12,14 +12,14 @@ use Rattle.masks.specs.Folds.{allBelow, anyBelow, iter}
 use Rattle.masks.proofs.Bools.{and-yes, and-yes-l, and-yes-r, true-or-false, bool-ext}
 use Rattle.masks.proofs.Turns.{all-none, all-step, iter-none, iter-step}
 use Rattle.masks.proofs.Laws.{has-none, has-put}
-use Rattle.masks.proofs.FoldLaws.{all-at, all-of, all-cong, all-both, all-mono, any-at, any-of}
-use Rattle.rules.specs.Flags.{there, implies}
+use Rattle.masks.proofs.FoldLaws.{all-at, all-of, all-cong, all-both, any-at, any-of}
+use Rattle.rules.specs.Flags.{implies}
 use Rattle.rules.specs.Cluster.{badServer}
 use Rattle.rules.specs.Sets.{members}
 use Rattle.server.specs.declared.Log.{Log}
 use Rattle.server.specs.declared.Server.{Server}
 use Rattle.server.specs.Held.{recordAt, entryAt, committedAt, shard}
-use Rattle.server.specs.Form.{noted, logged, entryFormed, logFormed, recordFormed, recordFormedAt, resultsFormed, resultsFormedAt, formed}
+use Rattle.server.specs.Form.{noted, logged, entryFormed, logFormed, recordFormedAt, resultsFormedAt, formed}
 use Rattle.server_form.specs.OnePass.{entryNew, readLog, loggedFormed, numberFormed, numberFormedAt, formedBelow}
 
 -- ---- the log's word

@@ -1,19 +1,19 @@
 -- What the form asks of one number, in the order in which it is read: without pieces nothing else is there; with pieces, the shards that they
 -- touch decide the rest. Assumes nothing.
 use Prim.Native.Nat.{ℕ}
-use mathlib.Core.Path.{_≡_, refl, sym, ap, _∙_}
+use mathlib.Core.Path.{_≡_, refl, ap, _∙_}
 use mathlib.Core.Logic.{⊎-elim}
 use mathlib.Core.Bool.{Bool, true, false, not, cond, _&&_, _||_}
 use lib.Dec.{eqb}
 use Rattle.masks.specs.Bits.{has, within}
-use Rattle.masks.proofs.Bools.{true-or-false, and-no-l}
+use Rattle.masks.proofs.Bools.{true-or-false}
 use Rattle.rules.specs.Flags.{there, implies}
 use Rattle.rules.specs.Ballots.{badBallot}
 use Rattle.rules.specs.Pieces.{anyPieces, piecesKept, piecesOn, shardsOf}
 use Rattle.rules.specs.Sets.{badWord, badSet, members}
 use Rattle.server.specs.declared.Record.{Record}
 use Rattle.server.specs.Form.{piecesFormed, ballotsFormed, setsFormed, setsHavePieces, recordFormed, resultsFormed}
-use Rattle.server_form.specs.OnePass.{touchedBy, loggedFormed, numberFormed, bareFormed, setsKept, ranFormed, heldFormed}
+use Rattle.server_form.specs.OnePass.{loggedFormed, numberFormed, bareFormed, setsKept, ranFormed, heldFormed}
 use Rattle.server_form.proofs.TouchedWord.{kept-word, kept-touched}
 
 -- ---- without pieces

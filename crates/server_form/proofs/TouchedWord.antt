@@ -7,7 +7,6 @@ use native.Mathlib.Decide.{decLt}
 use native.Mathlib.Omega.{arith}
 use lib.Dec.{leb, ltb, eqb}
 use borrow.Author.Tests.{leb-true, ltb-true, lt-ltb, le-ltb, eq-eqb, ne-eqb}
-use Rattle.masks.specs.Bits.{In}
 use Rattle.masks.specs.Folds.{allBelow, anyBelow}
 use Rattle.masks.proofs.Bools.{and-yes, and-yes-l, and-yes-r, and-no-l, true-or-false, true-and-false, bool-ext}
 use Rattle.masks.proofs.Laws.{has-in, in-pos}

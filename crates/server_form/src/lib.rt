@@ -5,8 +5,8 @@ use rules::cluster::bad_server;
 use rules::cluster::shard_of;
 use server::Server;
 
-mod log; // log.rt: the log's numbers as a word
-mod number; // number.rt: the record and the results of one number
+pub mod log; // log.rt: the log's numbers as a word
+pub mod number; // number.rt: the record and the results of one number
 pub mod pieces; // pieces.rt: the shards that pieces touch, in one walk
 
 // What the log says by itself: its numbers, and whether it is a log.

@@ -4,7 +4,7 @@ ghost use mathlib.Core.Bool.{not, _&&_};
 ghost use Rattle.rules.specs.Flags.{implies};
 ghost use Rattle.rules.specs.Ballots.{badBallot};
 ghost use Rattle.rules.specs.Sets.{badSet};
-ghost use Rattle.server_form.specs.OnePass.{loggedFormed, numberFormed, bareFormed, setsKept, ranFormed, heldFormed};
+ghost use Rattle.server_form.specs.OnePass.{numberFormed, bareFormed, setsKept, ranFormed, heldFormed};
 use rules::Set;
 use rules::ballots::bad_ballot;
 use rules::sets::bad_set;

@@ -1,50 +1,19 @@
 // What is there at first.
 ghost use mathlib.Core.Path.{_≡_};
-ghost use Rattle.rules.specs.Values.{noValues};
-ghost use Rattle.rules.specs.Pieces.{noPieces};
 ghost use Rattle.counters.specs.Effects.{noCounters};
 ghost use Rattle.server.specs.Held.{freshRecord};
 ghost use Rattle.server.specs.Host.{freshServer};
 use counters::Counter;
 use counters::Counters;
+use messages::blanks::no_pieces;
+use messages::blanks::no_values;
 use rules::MaybeSet;
 use rules::MaybeVote;
 use rules::MaybeWord;
-use rules::Piece;
-use rules::Pieces;
 use rules::Set;
-use rules::Value;
-use rules::Values;
 use server::Log;
 use server::Record;
 use server::Server;
-
-// No pieces.
-fn no_pieces() -> Pieces
-    ensures { λ r. ⌜ r ≡ noPieces ⌝ }
-{
-    let none = Piece {
-        shard: 0,
-        key: 0,
-        kind: 0,
-        operand: 0,
-    };
-    Pieces {
-        list: [none; 8],
-        count: 0,
-    }
-}
-
-// No results.
-fn no_values() -> Values
-    ensures { λ r. ⌜ r ≡ noValues ⌝ }
-{
-    let none = Value { value: 0, kept: 0 };
-    Values {
-        list: [none; 8],
-        count: 0,
-    }
-}
 
 // The record of a number of which nothing is held.
 fn fresh_record() -> Record

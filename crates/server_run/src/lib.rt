@@ -8,7 +8,7 @@ use server::Ran;
 use server::Server;
 use server::Wants;
 
-mod first; // first.rt: what is there at first
+pub mod first; // first.rt: what is there at first
 mod gather; // gather.rt: what the records say, in one pass
 mod running; // running.rt: runs one after the other
 

@@ -3,35 +3,28 @@
 use Prim.Native.Nat.{ℕ, _<_, _≤_}
 use mathlib.Core.Path.{_≡_, refl, sym, ap, _∙_}
 use mathlib.Core.Logic.{⊎-elim}
-use mathlib.Core.Bool.{Bool, true, false, not, cond, _&&_, _||_}
-use mathlib.Core.List.{List}
+use mathlib.Core.Bool.{Bool, true, false, not, cond, _&&_}
 use native.Mathlib.Omega.{arith}
 use lib.Dec.{leb, eqb}
 use lib.Seq.{set-getD}
-use borrow.Author.Tests.{leb-true, leb-false, eqb-true, eq-eqb, ne-eqb}
+use borrow.Author.Tests.{leb-false, eqb-true}
 use Rattle.masks.specs.Folds.{maskOf}
-use Rattle.masks.proofs.Bools.{true-or-false, or-yes-l}
+use Rattle.masks.proofs.Bools.{true-or-false, true-and-false}
 use Rattle.masks.proofs.Turns.{mask-none}
-use Rattle.masks.proofs.FoldLaws.{mask-cong}
-use Rattle.rules.specs.declared.Keys.{Keys}
 use Rattle.rules.specs.Flags.{there}
 use Rattle.rules.specs.Cluster.{badNumber}
 use Rattle.rules.specs.Pieces.{shardsOf}
-use Rattle.rules.specs.Conflict.{conflict}
 use Rattle.rules.specs.Keys.{keysOn, clashes}
 use Rattle.rules.proofs.ConflictIs.{conflict-keys}
 use Rattle.wire.specs.declared.Message.{Message}
 use Rattle.wire.specs.Faults.{badNumbers, badPieces, badSets}
-use Rattle.wire.specs.Messages.{blank}
 use Rattle.server.specs.declared.Record.{Record}
 use Rattle.server.specs.declared.Server.{Server}
-use Rattle.server.specs.declared.Served.{Served}
-use Rattle.server.specs.Held.{noRecord, recordAt, shard}
+use Rattle.server.specs.Held.{recordAt, shard}
 use Rattle.server.specs.Form.{formed}
 use Rattle.server.specs.Refusals.{notTaken, untouched, otherPieces, otherSet, refusal}
-use Rattle.server.specs.Changes.{change}
 use Rattle.server.specs.Serve.{cameEarlier, arrivalSet, fixes, arrivalFor, refused, taken, serve}
-use Rattle.server_step.specs.OneStore.{firstRefusal, refusalBy, changeBy, looked, placeOf, answered, answer, stepBy}
+use Rattle.server_step.specs.OneStore.{firstRefusal, refusalBy, changeBy, looked, placeOf, answer, stepBy}
 
 -- ---- who came earlier, by keys
 
@@ -115,3 +108,11 @@ module _ (s : Server) (m : Message) where
 
   pub step-is-serve : stepBy s m ≡ serve s m
   step-is-serve = ⊎-elim no-number number (true-or-false (badNumber (m .t)))
+
+  -- a message that is not refused is of a number
+  pub not-refused : refusal s m ≡ 0 → m .t < 64
+  not-refused e =
+      ⊎-elim
+      (λ b. absurd (true-and-false (ap (λ (n : ℕ). eqb n 0) e) (ap (λ (n : ℕ). eqb n 0) (refusal-is s m) ∙ bad-refused (formed s) (shard s) (recordAt s (m .t)) m b)))
+      (λ b. omega (arith, leb-false 64 (m .t) b))
+      (true-or-false (badNumber (m .t)))

@@ -3,7 +3,6 @@ use Prim.Native.Nat.{ℕ}
 use mathlib.Core.Bool.{Bool, not, _&&_}
 use lib.Dec.{eqb}
 use Rattle.masks.specs.Folds.{maskOf}
-use Rattle.rules.specs.declared.Pieces.{Pieces}
 use Rattle.rules.specs.Choice.{_if_else_}
 use Rattle.rules.specs.Cluster.{NUMBERS, badNumber}
 use Rattle.rules.specs.Pieces.{shardsOf}

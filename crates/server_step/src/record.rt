@@ -4,6 +4,7 @@ ghost use mathlib.Core.Bool.{_&&_};
 ghost use Rattle.rules.specs.Flags.{there};
 ghost use Rattle.rules.specs.Keys.{keysOn, clashes};
 ghost use Rattle.server_step.specs.OneStore.{changeBy, looked, placeOf};
+use messages::blank;
 use rules::Keys;
 use rules::cluster::bad_number;
 use rules::conflicts::clashes;
@@ -11,7 +12,6 @@ use rules::conflicts::keys_on;
 use server::Changed;
 use server::Record;
 use server_change::changes::change;
-use server_change::replies::blank;
 use wire::Message;
 
 // The place of the record of `t`, or any where `t` is no number.

@@ -2,11 +2,11 @@
 ghost use mathlib.Core.Path.{_≡_};
 ghost use Rattle.server.specs.Refusals.{notTaken, untouched, otherPieces, otherSet};
 ghost use Rattle.server_step.specs.OneStore.{firstRefusal, refusalBy};
-use faults::codes::ACCEPT;
-use faults::codes::COMMIT;
-use faults::codes::DONE;
-use faults::codes::PRE_ACCEPT;
-use faults::codes::PREPARE;
+use messages::codes::ACCEPT;
+use messages::codes::COMMIT;
+use messages::codes::DONE;
+use messages::codes::PRE_ACCEPT;
+use messages::codes::PREPARE;
 use rules::sets::same_set;
 use rules::transaction::same_pieces;
 use rules::transaction::shards_of;
@@ -17,7 +17,7 @@ use wire::Message;
 fn not_taken(m: Message) -> bool
     ensures { λ r. ⌜ r ≡ notTaken m ⌝ }
 {
-    !faults::codes::server_takes(m.code) | faults::over_count(m)
+    !messages::codes::server_takes(m.code) | faults::over_count(m)
 }
 
 // 4: a PreAccept, Accept or Prepare, where T does not touch this server's shard.
@@ -32,7 +32,7 @@ fn untouched(k: u32, touched: u64, m: Message) -> bool
 fn other_pieces(v: Record, m: Message) -> bool
     ensures { λ r. ⌜ r ≡ otherPieces v m ⌝ }
 {
-    let shape = faults::codes::shape_of(m.code);
+    let shape = messages::codes::shape_of(m.code);
     let both = shape.pieces & (v.pieces.count != 0);
     if both {
         return !same_pieces(v.pieces, m.pieces);

@@ -9,6 +9,7 @@ use borrow.Author.Tests.{ltb-false}
 use Rattle.masks.proofs.Bools.{or-no-l, or-no-r, not-no}
 use Rattle.xdr.specs.Word.{be, be-length}
 use Rattle.xdr.specs.Form.{Form, u32, u64, int, when}
+use Rattle.xdr.proofs.Windows.{cost}
 use Rattle.rules.specs.declared.MaybeWord.{MaybeWord}
 use Rattle.rules.specs.declared.MaybeVote.{MaybeVote}
 use Rattle.rules.specs.Flags.{there}
@@ -25,13 +26,8 @@ use Rattle.wire.specs.Bytes.{Body, body, bodyOf, code, bytes, known, unw
 use Rattle.wire.specs.Holding.{Sized}
 use Rattle.wire.proofs.Lengths.{set-length, pieces-length, values-length, maybe-word-length, maybe-vote-length}
 
--- n bytes, where a field is there
-abbrev cost : Bool → ℕ → ℕ
-cost true n = n
-cost false n = 0
-
 -- what a shape's fields take at most, the code and T among them
-abbrev most : Shape → ℕ
+abbrev pub most : Shape → ℕ
 most h = 8 + cost (h .server) 4 + cost (h .ballot) 4 + cost (h .promise) 4 + cost (h .pieces) 132 + cost (h .set) 32 + cost (h .word) 8 + cost (h .prepared) 52 + cost (h .values) 68
 
 record Small (h : Shape) : Type 0 where
@@ -64,6 +60,9 @@ all-small k =
     either (eqb k 23) _ _ (row true false false false false false false true (omega arith)) (
     record { small = omega arith }))))))))))))))
 
+pub most-small : (k : ℕ) → most (shapeOf k) ≤ 176
+most-small k = all-small k .small
+
 -- the length, field by field
 pub body-length : (h : Shape) (b : Body) → length (body h .put b)
     ≡ (((((((4 + length (when 0 u32 (h .server) .put (b .0 .0 .0 .0 .0 .0 .0 .1))) + length (when 0 u32 (h .ballot) .put (b .0 .0 .0 .0 .0 .0 .1))) + length (when 0 u32 (h .promise) .put (b .0 .0 .0 .0 .0 .1)))
@@ -80,7 +79,7 @@ when-cost : {A : Type 0} (d : A) (F : Form A) (b : Bool) (a : A) (n : ℕ) → (
 when-cost d F true a n h = h refl
 when-cost d F false a n h = omega arith
 
-cost-le : (b : Bool) (n : ℕ) → cost b n ≤ n
+pub cost-le : (b : Bool) (n : ℕ) → cost b n ≤ n
 cost-le true n = omega arith
 cost-le false n = omega arith
 
@@ -127,7 +126,7 @@ longest m z w =
     let a₆ = when-cost 0 u64 (h .word) (m .word) 8 (λ _. omega (arith, be-length 8 (m .word))) in
     let a₇ = when-cost (noWord, noVote) prepared (h .prepared) (m .arrival, m .accepted) 52 (λ _. prepared-most _ _) in
     let a₈ = when-cost noValues values (h .values) (m .values) 68 (λ e. omega (arith, w .values e, values-length (m .values) (omega (arith, w .values e, z .values)))) in
-    omega (arith, put-length m, body-length h (bodyOf m), all-small (m .code) .small)
+    omega (arith, put-length m, body-length h (bodyOf m), most-small (m .code))
 
 -- an Accept with eight pieces
 pub longest-there-is : length (bytes .put (accept 9 8 (record { list = replicate 8 noPiece; count = 8 }) noSet)) ≡ 176

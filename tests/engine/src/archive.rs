@@ -1,6 +1,6 @@
 //! The proved library behind the same door. It is linked only with the feature `archive`.
 //!
-//! What `libstation.a` exports isn't settled; the names and parameters below are what a door of thin functions over lent states and slices would have.
+//! The names are those of docs/HOST.md. The parameters and results below are what thin functions over lent states and slices would have; they aren't settled yet.
 //! A slice is a pointer and a length. A call answers 0 or the number of its refusal; `Answer` gives the bytes written beside it.
 
 use crate::{image, layout, Due, Engine, Lent};
@@ -33,18 +33,29 @@ struct Sending {
 
 #[link(name = "station", kind = "static")]
 extern "C" {
-    fn station_fresh(server: &mut layout::Server, id: u32) -> u32;
-    fn station_take(server: &mut layout::Server, from: *const u8, many: usize, to: *mut u8, room: usize) -> Answer;
-    fn station_run(server: &mut layout::Server) -> Ran;
-    fn station_run_all(server: &mut layout::Server) -> Ran;
-    fn station_wanted(server: &layout::Server) -> Wants;
-    fn station_start(drive: &mut layout::Drive, coordinator: u32, t: u32, pieces: &layout::Pieces) -> u32;
-    fn station_recover(drive: &mut layout::Drive, coordinator: u32, t: u32, pieces: &layout::Pieces, floor: u32)
-        -> u32;
-    fn station_again(drive: &mut layout::Drive) -> u32;
-    fn station_move_on(drive: &mut layout::Drive) -> u32;
-    fn station_reply(drive: &mut layout::Drive, from: *const u8, many: usize) -> u32;
-    fn station_due(drive: &layout::Drive, to: *mut u8, room: usize) -> Sending;
+    fn drobulets_server_fresh(server: &mut layout::Server, id: u32) -> u32;
+    fn drobulets_server_take(
+        server: &mut layout::Server,
+        from: *const u8,
+        many: usize,
+        to: *mut u8,
+        room: usize,
+    ) -> Answer;
+    fn drobulets_server_run(server: &mut layout::Server) -> Ran;
+    fn drobulets_server_run_all(server: &mut layout::Server) -> Ran;
+    fn drobulets_server_wanted(server: &layout::Server) -> Wants;
+    fn drobulets_drive_start(drive: &mut layout::Drive, coordinator: u32, t: u32, pieces: &layout::Pieces) -> u32;
+    fn drobulets_drive_recover(
+        drive: &mut layout::Drive,
+        coordinator: u32,
+        t: u32,
+        pieces: &layout::Pieces,
+        floor: u32,
+    ) -> u32;
+    fn drobulets_drive_again(drive: &mut layout::Drive) -> u32;
+    fn drobulets_drive_move_on(drive: &mut layout::Drive) -> u32;
+    fn drobulets_drive_take(drive: &mut layout::Drive, from: *const u8, many: usize) -> u32;
+    fn drobulets_drive_due(drive: &layout::Drive, to: *mut u8, room: usize) -> Sending;
 }
 
 /// What the number of a refusal says: 0 is none.
@@ -55,6 +66,7 @@ fn judged<T>(number: u32, answer: T) -> Result<T, Refusal> {
     }
 }
 
+#[derive(Clone, Copy, Debug, Default)]
 pub struct Archive;
 
 // Each call lends states and slices that are good, aligned and apart from each other for its time: Rust's own references are.
@@ -64,28 +76,28 @@ impl Engine for Archive {
 
     fn fresh(&self, id: u32) -> Result<layout::Server, Refusal> {
         let mut server = layout::Server::cleared();
-        let refusal = unsafe { station_fresh(&mut server, id) };
+        let refusal = unsafe { drobulets_server_fresh(&mut server, id) };
         judged(refusal, server)
     }
 
     fn take(&self, server: &mut layout::Server, message: &[u8], answer: &mut [u8]) -> Result<usize, Refusal> {
         let (from, to) = (message.as_ptr(), answer.as_mut_ptr());
-        let said = unsafe { station_take(server, from, message.len(), to, answer.len()) };
+        let said = unsafe { drobulets_server_take(server, from, message.len(), to, answer.len()) };
         judged(said.refusal, said.length as usize)
     }
 
     fn run(&self, server: &mut layout::Server) -> Result<u32, Refusal> {
-        let ran = unsafe { station_run(server) };
+        let ran = unsafe { drobulets_server_run(server) };
         judged(ran.refusal, ran.many)
     }
 
     fn run_all(&self, server: &mut layout::Server) -> Result<u32, Refusal> {
-        let ran = unsafe { station_run_all(server) };
+        let ran = unsafe { drobulets_server_run_all(server) };
         judged(ran.refusal, ran.many)
     }
 
     fn wanted(&self, server: &layout::Server) -> Result<Set, Refusal> {
-        let wants = unsafe { station_wanted(server) };
+        let wants = unsafe { drobulets_server_wanted(server) };
         judged(wants.refusal, image::set(&wants.set))
     }
 
@@ -94,7 +106,7 @@ impl Engine for Archive {
     }
 
     fn start(&self, drive: &mut layout::Drive, coordinator: u32, t: u32, pieces: &Pieces) -> Result<(), Refusal> {
-        judged(unsafe { station_start(drive, coordinator, t, &image::pieces_image(pieces)) }, ())
+        judged(unsafe { drobulets_drive_start(drive, coordinator, t, &image::pieces_image(pieces)) }, ())
     }
 
     fn recover(
@@ -105,23 +117,23 @@ impl Engine for Archive {
         pieces: &Pieces,
         floor: u32,
     ) -> Result<(), Refusal> {
-        judged(unsafe { station_recover(drive, coordinator, t, &image::pieces_image(pieces), floor) }, ())
+        judged(unsafe { drobulets_drive_recover(drive, coordinator, t, &image::pieces_image(pieces), floor) }, ())
     }
 
     fn again(&self, drive: &mut layout::Drive) -> Result<(), Refusal> {
-        judged(unsafe { station_again(drive) }, ())
+        judged(unsafe { drobulets_drive_again(drive) }, ())
     }
 
     fn move_on(&self, drive: &mut layout::Drive) -> Result<(), Refusal> {
-        judged(unsafe { station_move_on(drive) }, ())
+        judged(unsafe { drobulets_drive_move_on(drive) }, ())
     }
 
     fn reply(&self, drive: &mut layout::Drive, message: &[u8]) -> Result<(), Refusal> {
-        judged(unsafe { station_reply(drive, message.as_ptr(), message.len()) }, ())
+        judged(unsafe { drobulets_drive_take(drive, message.as_ptr(), message.len()) }, ())
     }
 
     fn due(&self, drive: &layout::Drive, message: &mut [u8]) -> Result<Due, Refusal> {
-        let sending = unsafe { station_due(drive, message.as_mut_ptr(), message.len()) };
+        let sending = unsafe { drobulets_drive_due(drive, message.as_mut_ptr(), message.len()) };
         judged(sending.refusal, Due { length: sending.length as usize, servers: sending.servers })
     }
 

@@ -143,12 +143,3 @@ pub fn drive_image(drive: &Drive) -> layout::Drive {
         seen: drive.seen,
     }
 }
-
-/// The same state with 0 wherever the state ignores what stands there, and flags of 0 and 1.
-pub fn normal_server(image: &layout::Server) -> layout::Server {
-    server_image(&server(image))
-}
-
-pub fn normal_drive(image: &layout::Drive) -> layout::Drive {
-    drive_image(&drive(image))
-}

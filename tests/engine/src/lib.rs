@@ -5,6 +5,7 @@ pub mod archive;
 pub mod image;
 pub mod layout;
 pub mod plain;
+pub mod text;
 
 use model::{Pieces, Refusal, Set};
 

@@ -4,6 +4,7 @@ use crate::{image, layout, Due, Engine, Lent, LONGEST};
 use model::codec::{decode, encode};
 use model::{drive, run, server, Drive, Pieces, Refusal, Server, Set};
 
+#[derive(Clone, Copy, Debug, Default)]
 pub struct Plain;
 
 impl Engine for Plain {

@@ -3,10 +3,12 @@
 mod fields;
 mod generate;
 mod shapes;
+mod stepped;
 mod wire;
 mod witness;
 
 use chance::Chance;
+use engine::{ask as ask_server, Engine, Lent, Tested};
 use fields::fields;
 use model::{Message, Refusal};
 use wire::{Plain, Wire};
@@ -25,11 +27,8 @@ fn main() {
     let witness = std::env::args().nth(1).expect("the witness program");
     let mut chance = Chance::of(4506);
     published(&Plain, &witness);
-    let messages: Vec<Message> = Message::CODES
-        .iter()
-        .flat_map(|code| (0..EACH).map(|_| *code).collect::<Vec<_>>())
-        .map(|code| generate::message(&mut chance, code))
-        .collect();
+    let codes = Message::CODES.iter().flat_map(|code| vec![*code; EACH]);
+    let messages: Vec<Message> = codes.map(|code| generate::message(&mut chance, code)).collect();
     both_ways(&Plain, &witness, &messages);
     let mut strings: Vec<Vec<u8>> = Vec::new();
     for message in &messages {
@@ -37,6 +36,8 @@ fn main() {
     }
     strings.extend((0..NOISE).map(|_| generate::noise(&mut chance)));
     judged_alike(&Plain, &witness, &strings);
+    written_by_steps(&Tested::default(), &witness, &mut chance);
+    judged_by_steps(&Tested::default(), &strings);
 }
 
 /// The witness writes the RFC's own example as the RFC prints it, and the codec writes the numbers of it as they stand there.
@@ -86,6 +87,33 @@ fn judged_alike(wire: &impl Wire, witness: &str, strings: &[Vec<u8>]) {
         }
     }
     count.print();
+}
+
+/// What servers answer and drives send has the bytes that the witness writes.
+fn written_by_steps(engine: &impl Lent, witness: &str, chance: &mut Chance) {
+    let codes = stepped::CODES.iter().flat_map(|code| vec![*code; EACH]);
+    let messages: Vec<Message> = codes.map(|code| stepped::message(chance, code)).collect();
+    let theirs = ask(witness, messages.iter().map(|m| encode_question(&fields(m))).collect());
+    for (message, theirs) in messages.iter().zip(theirs) {
+        assert_eq!(hex(&stepped::encode(engine, message)), theirs, "{message:?}");
+    }
+    println!("{} messages of {} codes: written by steps as by the witness", messages.len(), stepped::CODES.len());
+}
+
+/// A server and a drive judge bytes before all else, and by the same numbers. A blank drive refuses by 13 whatever decodes.
+fn judged_by_steps(engine: &impl Engine, strings: &[Vec<u8>]) {
+    let mut server = engine.fresh(0).expect("a server of the cluster");
+    let mut drive = engine.blank();
+    for bytes in strings {
+        let expected = shapes::refusal(bytes);
+        let at_server = ask_server(engine, &mut server, bytes).map_or_else(Refusal::number, |_| 0);
+        let at_drive = engine.reply(&mut drive, bytes).map_or_else(Refusal::number, |()| 0);
+        let untaken = expected == 0 && !matches!(bytes[3], 0..=5 | 20);
+        let by_bytes = matches!(at_server, 10..=12);
+        assert_eq!(if by_bytes { at_server } else { 0 }, if untaken { 12 } else { expected }, "{}", hex(bytes));
+        assert_eq!(at_drive, if expected == 0 { 13 } else { expected }, "{}", hex(bytes));
+    }
+    println!("{} strings judged by a server and by a drive, by the same numbers", strings.len());
 }
 
 #[derive(Default)]

@@ -17,7 +17,7 @@ use Rattle.codec.proofs.encoding.put_front.Reads as put-front-reads
 use Rattle.codec.proofs.encoding.put_header.Reads as put-header-reads
 use Rattle.codec.proofs.encoding.unwritable.Reads as unwritable-reads
 use Rattle.codec.proofs.shapes.has_rest.Reads as has-rest-reads
-use Rattle.codec.proofs.shapes.shape_of.Reads as shape-of-reads
+use Rattle.messages.proofs.codes.shape_of.Reads as shape-of-reads
 
 -- the arrays of the message that was lent
 sized : (c : lts.Start (shape-of-reads.Asked, shape-of-reads.Learnt, unwritable-reads.Asked, unwritable-reads.Learnt, put-header-reads.Asked, put-header-reads.Learnt, has-rest-reads.Asked, has-rest-reads.Learnt, put-body-reads.Asked, put-body-reads.Learnt, deliver-reads.Asked, deliver-reads.Learnt, put-front-reads.Asked, put-front-reads.Learnt) reads.Pre reads.Post) → Sized (c .args .message)

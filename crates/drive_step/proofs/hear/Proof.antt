@@ -5,7 +5,6 @@ use native.Mathlib.Omega.{arith}
 use borrow.Author.Needs.{needs}
 use borrow.Author.Tests.{eqb-true}
 use lib.ListN.{length, length-map}
-use Rattle.masks.proofs.Bools.{not-yes, not-no}
 use Rattle.drive.specs.Held.{withAnswer}
 use Rattle.drive.specs.Decide.{decided}
 use Rattle.drive.specs.Hear.{answerOf, refusal}
@@ -37,7 +36,7 @@ no-is c = refusal-is (c .before .before .before .before .before .before .before 
 
 -- the server of an OK is one of the twelve
 place-of-ok : (c : tie.Else3 Inv-loop μ-loop) → c .before .before .before .before .before .before .before .before .before .before .before .before .before .before .before .before .before .args .m .server < 12
-place-of-ok c = ok-place (c .before .before .before .before .before .before .before .before .before .before .before .before .before .before .before .before .before .args .d) (c .before .before .before .before .before .before .before .before .before .before .before .before .before .before .before .before .before .args .m) (sym (no-is (c .before .before .before .before .before)) ∙ eqb-true _ 0 (not-no _ (c .before .before .if1 .left))) (c .before .if2 .left) (c .if3 .left)
+place-of-ok c = ok-place (c .before .before .before .before .before .before .before .before .before .before .before .before .before .before .before .before .before .args .d) (c .before .before .before .before .before .before .before .before .before .before .before .before .before .before .before .before .before .args .m) (sym (no-is (c .before .before .before .before .before)) ∙ eqb-true _ 0 (c .before .before .if1 .taken)) (c .before .if2 .left) (c .if3 .left)
 
 -- whether the answers decide with this one
 decided-is : (c : tie.After-decided Inv-loop μ-loop) → c .decided .result ≡ decided (withAnswer (c .before .before .before .before .before .before .before .before .before .before .before .before .before .before .before .before .before .before .before .before .before .args .d) (c .before .before .before .before .before .before .before .before .before .before .before .before .before .before .before .before .before .before .before .before .before .args .m .server) (answerOf (c .before .before .before .before .before .before .before .before .before .before .before .before .before .before .before .before .before .before .before .before .before .args .m)))
@@ -83,20 +82,17 @@ place-of-requires c κs = search needs
 first-of-requires : tie.Need-first-of-requires Inv-loop μ-loop
 first-of-requires c κs = search needs
 
-returns : tie.Need-returns Inv-loop μ-loop
-returns c = refused-hears (c .before .before .before .before .before .before .before .before .before .before .before .before .before .before .before .args .d) (c .before .before .before .before .before .before .before .before .before .before .before .before .before .before .before .args .m) (no-is (c .before .before .before)) (not-yes _ (c .if1 .taken))
-
 no-answer-requires : tie.Need-no-answer-requires Inv-loop μ-loop
 no-answer-requires c κs = search needs
 
-returns-2 : tie.Need-returns-2 Inv-loop μ-loop
-returns-2 c = rw (c .before .no-answer .ensures) (done-hears (c .before .before .before .before .before .before .before .before .before .before .before .before .before .before .before .before .before .before .args .d) (c .before .before .before .before .before .before .before .before .before .before .before .before .before .before .before .before .before .before .args .m) (no-is (c .before .before .before .before .before .before)) (not-no _ (c .before .before .before .if1 .left)) (c .before .before .if2 .taken))
+returns : tie.Need-returns Inv-loop μ-loop
+returns c = rw (c .before .no-answer .ensures) (done-hears (c .before .before .before .before .before .before .before .before .before .before .before .before .before .before .before .before .before .before .args .d) (c .before .before .before .before .before .before .before .before .before .before .before .before .before .before .before .before .before .before .args .m) (no-is (c .before .before .before .before .before .before)) (c .before .before .before .if1 .taken) (c .before .before .if2 .taken))
 
 higher-requires : tie.Need-higher-requires Inv-loop μ-loop
 higher-requires c κs = search needs
 
-returns-3 : tie.Need-returns-3 Inv-loop μ-loop
-returns-3 c = rw (c .higher .ensures) (behind-hears (c .before .before .before .before .before .before .before .before .before .before .before .before .before .before .before .before .before .before .args .d) (c .before .before .before .before .before .before .before .before .before .before .before .before .before .before .before .before .before .before .args .m) (no-is (c .before .before .before .before .before .before)) (not-no _ (c .before .before .before .if1 .left)) (c .before .before .if2 .left) (c .before .if3 .taken))
+returns-2 : tie.Need-returns-2 Inv-loop μ-loop
+returns-2 c = rw (c .higher .ensures) (behind-hears (c .before .before .before .before .before .before .before .before .before .before .before .before .before .before .before .before .before .before .args .d) (c .before .before .before .before .before .before .before .before .before .before .before .before .before .before .before .before .before .before .args .m) (no-is (c .before .before .before .before .before .before)) (c .before .before .before .if1 .taken) (c .before .before .if2 .left) (c .before .if3 .taken))
 
 cast-s : tie.Need-cast-s Inv-loop μ-loop
 cast-s c = search needs
@@ -126,11 +122,14 @@ decide-requires c κs = rw (c .all-answered .ensures, c .before .before .before 
 no-answer-requires-2 : tie.Need-no-answer-requires-2 Inv-loop μ-loop
 no-answer-requires-2 c κs = search needs
 
+returns-3 : tie.Need-returns-3 Inv-loop μ-loop
+returns-3 c = rw (c .before .no-answer2 .ensures, c .before .before .decide .ensures, c .before .before .before .before .before .before .before .answer-of .ensures) (deciding-hears (c .before .before .before .before .before .before .before .before .before .before .before .before .before .before .before .before .before .before .before .before .before .before .before .before .before .before .args .d) (c .before .before .before .before .before .before .before .before .before .before .before .before .before .before .before .before .before .before .before .before .before .before .before .before .before .before .args .m) (no-is (c .before .before .before .before .before .before .before .before .before .before .before .before .before .before)) (c .before .before .before .before .before .before .before .before .before .before .before .if1 .taken) (c .before .before .before .before .before .before .before .before .before .before .if2 .left) (c .before .before .before .before .before .before .before .before .before .if3 .left) (sym (decided-is (c .before .before .before .before .before)) ∙ c .before .before .before .before .if4 .taken))
+
 returns-4 : tie.Need-returns-4 Inv-loop μ-loop
-returns-4 c = rw (c .before .no-answer2 .ensures, c .before .before .decide .ensures, c .before .before .before .before .before .before .before .answer-of .ensures) (deciding-hears (c .before .before .before .before .before .before .before .before .before .before .before .before .before .before .before .before .before .before .before .before .before .before .before .before .before .before .args .d) (c .before .before .before .before .before .before .before .before .before .before .before .before .before .before .before .before .before .before .before .before .before .before .before .before .before .before .args .m) (no-is (c .before .before .before .before .before .before .before .before .before .before .before .before .before .before)) (not-no _ (c .before .before .before .before .before .before .before .before .before .before .before .if1 .left)) (c .before .before .before .before .before .before .before .before .before .before .if2 .left) (c .before .before .before .before .before .before .before .before .before .if3 .left) (sym (decided-is (c .before .before .before .before .before)) ∙ c .before .before .before .before .if4 .taken))
+returns-4 c = rw (c .before .before .before .answer-of .ensures, eqb-true (c .before .before .before .before .before .before .before .before .before .before .first-of .result) 0 (c .before .before .before .before .before .before .before .if1 .taken)) (waiting-hears (c .before .before .before .before .before .before .before .before .before .before .before .before .before .before .before .before .before .before .before .before .before .before .args .d) (c .before .before .before .before .before .before .before .before .before .before .before .before .before .before .before .before .before .before .before .before .before .before .args .m) (no-is (c .before .before .before .before .before .before .before .before .before .before)) (c .before .before .before .before .before .before .before .if1 .taken) (c .before .before .before .before .before .before .if2 .left) (c .before .before .before .before .before .if3 .left) (sym (decided-is (c .before)) ∙ c .if4 .left))
 
 returns-5 : tie.Need-returns-5 Inv-loop μ-loop
-returns-5 c = rw (c .before .before .before .answer-of .ensures) (waiting-hears (c .before .before .before .before .before .before .before .before .before .before .before .before .before .before .before .before .before .before .before .before .before .before .args .d) (c .before .before .before .before .before .before .before .before .before .before .before .before .before .before .before .before .before .before .before .before .before .before .args .m) (no-is (c .before .before .before .before .before .before .before .before .before .before)) (not-no _ (c .before .before .before .before .before .before .before .if1 .left)) (c .before .before .before .before .before .before .if2 .left) (c .before .before .before .before .before .if3 .left) (sym (decided-is (c .before)) ∙ c .if4 .left))
+returns-5 c = refused-hears (c .before .before .before .before .before .before .before .before .before .before .before .before .before .before .before .args .d) (c .before .before .before .before .before .before .before .before .before .before .before .before .before .before .before .args .m) (no-is (c .before .before .before)) (c .if1 .left)
 
 pub hear-spec : {M : Type 1} → statement M
 hear-spec =
@@ -151,11 +150,10 @@ hear-spec =
     formed-by-requires
     place-of-requires
     first-of-requires
-    returns
     no-answer-requires
-    returns-2
+    returns
     higher-requires
-    returns-3
+    returns-2
     cast-s
     answer-of-requires
     mul-a-2
@@ -165,5 +163,6 @@ hear-spec =
     all-answered-requires
     decide-requires
     no-answer-requires-2
+    returns-3
     returns-4
     returns-5)

@@ -1,7 +1,7 @@
 -- `formed` meets its contract: the log, the server's number and the numbers passed keep the form. Assumes nothing.
 use Rattle.server.specs.Held.{shard}
 use native.Mathlib.Omega.{arith}
-use Prim.Native.Nat.{ℕ, _-_, _≤_}
+use Prim.Native.Nat.{_-_, _≤_}
 use Rattle.server_form.proofs.FormInOnePass.{form-once, pass-none, pass-step}
 use Rattle.server_form.specs.OnePass.{readLog, formedBelow}
 use mathlib.Core.Path.{_≡_, sym, ap, _∙_}

@@ -2,7 +2,7 @@
 use Rattle.masks.proofs.Turns.{all-none, all-step}
 use Rattle.masks.proofs.Bools.{not-yes, not-no}
 use Rattle.server_form.proofs.FormInOnePass.{logged-none, logged-step}
-use Prim.Native.Nat.{ℕ, _-_, _≤_}
+use Prim.Native.Nat.{_-_, _≤_}
 use borrow.Author.Tests.{leb-true}
 use native.Mathlib.Omega.{arith}
 use Rattle.server_form.specs.OnePass.{entryNew, readLog}

@@ -8,7 +8,7 @@ use mathlib.Core.Bool.{true, false, _&&_}
 use native.Mathlib.Omega.{arith}
 use Rattle.server_form.proofs.TouchedWord.{lastPlace, last-none, last-step, entry-rises, walked}
 use Rattle.masks.specs.Folds.{allBelow}
-use Prim.Native.Nat.{ℕ, _-_, _≤_}
+use Prim.Native.Nat.{_-_, _≤_}
 use Rattle.rules.specs.Pieces.{entryKept, piecesKept}
 use Rattle.masks.proofs.Turns.{all-none, all-step}
 use Rattle.masks.proofs.Bools.{and-yes-r, not-yes, not-no}
@@ -30,7 +30,9 @@ unfolding touchedBy piecesKept
 returns c = let n = c .before .args .t1 .count in rw (not-yes (leb 1 n && leb n 8) (c .if1 .taken))
 
 loop-holds : tie.Need-loop-holds Inv-loop μ-loop
-loop-holds c = let n = c .before .args .t1 .count in (search needs, leb-true n 8 (and-yes-r (leb 1 n) (leb n 8) (not-no (leb 1 n && leb n 8) (c .if1 .left))), refl, all-none _, last-none _, shards-none _)
+loop-holds c =
+    let n = c .before .args .t1 .count in
+    (search needs, leb-true n 8 (and-yes-r (leb 1 n) (leb n 8) (not-no (leb 1 n && leb n 8) (c .if1 .left))), refl, all-none _, last-none _, shards-none _)
 
 mul-p : tie.Need-mul-p Inv-loop μ-loop
 mul-p c = search needs
@@ -54,7 +56,10 @@ loop-less : tie.Need-loop-less Inv-loop μ-loop
 loop-less c = search needs
 
 loop-again : tie.Need-loop-again Inv-loop μ-loop
-loop-again c = let ps = c .before .before .before .before .before .before .before .args .t1 in let i = c .before .before .before .before .before .loop .i in (search needs, search needs, search needs, rw (all-step, ← entry-rises ps i) (cc), rw last-step (c .before .before .place .ensures), rw (shards-step, lt-ltb i (ps .count) (omega arith)) (cc))
+loop-again c =
+    let ps = c .before .before .before .before .before .before .before .args .t1 in
+    let i = c .before .before .before .before .before .loop .i in
+    (search needs, search needs, search needs, rw (all-step, ← entry-rises ps i) (cc), rw last-step (c .before .before .place .ensures), rw (shards-step, lt-ltb i (ps .count) (omega arith)) (cc))
 
 returns-2 : tie.Need-returns-2 Inv-loop μ-loop
 returns-2 c =

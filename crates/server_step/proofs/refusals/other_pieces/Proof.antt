@@ -12,7 +12,9 @@ same-pieces-requires c κs = search needs
 
 returns : tie.Need-returns
 unfolding otherPieces
-returns c = let h = rw (c .before .before .before .before .shape-of .ensures) at (c .before .if1 .taken) in rw (c .same-pieces .ensures, h)
+returns c =
+    let h = rw (c .before .before .before .before .shape-of .ensures) at (c .before .if1 .taken) in
+    rw (c .same-pieces .ensures, h)
 
 returns-2 : tie.Need-returns-2
 unfolding otherPieces

@@ -1,0 +1,5 @@
+pub mod Passed
+pub mod FormParts
+pub mod Decided
+pub mod DecideKeepsForm
+pub mod KeepsForm

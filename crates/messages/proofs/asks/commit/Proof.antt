@@ -1,0 +1,13 @@
+-- `asks::commit` meets its contract. Assumes nothing.
+use Rattle.messages.proofs.asks.commit.Statement.{statement}
+use borrow.Author.Needs.{needs}
+use Rattle.messages.proofs.asks.commit.Tie as tie
+
+plain-requires : tie.Need-plain-requires
+plain-requires c κs = search needs
+
+returns : tie.Need-returns
+returns c = rw (c .plain .ensures)
+
+pub commit-spec : {M : Type 1} → statement M
+commit-spec = tie.close (tie.spec plain-requires returns)

@@ -1,0 +1,17 @@
+pub mod Codec
+pub mod Counters
+pub mod DriveDecide
+pub mod DriveForm
+pub mod DriveHost
+pub mod DriveLent
+pub mod DriveStep
+pub mod Faults
+pub mod Graph
+pub mod Masks
+pub mod Parts
+pub mod Rules
+pub mod ServerChange
+pub mod ServerForm
+pub mod ServerRun
+pub mod ServerStep
+pub mod Xdr
