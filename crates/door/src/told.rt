@@ -1,9 +1,9 @@
 // What an outcome tells the host, and the state that it leaves to be stored.
 ghost use mathlib.Core.Path.{_≡_};
 ghost use Rattle.door.specs.Told.{counted};
+use crate::Answer;
 use crate::Counted;
-use drive::Drive;
-use drive::Moved;
+use crate::Taken;
 use server::Begun;
 use server::Ran;
 use server::Server;
@@ -35,14 +35,14 @@ pub fn ran_server(o: Ran) -> Server
     o.server
 }
 
-pub fn moved_refusal(o: Moved) -> u32
-    ensures { λ r. ⌜ r ≡ o .refusal ⌝ }
+pub fn taken_answer(o: Taken) -> Answer
+    ensures { λ r. ⌜ r ≡ o .answer ⌝ }
 {
-    o.refusal
+    o.answer
 }
 
-pub fn moved_drive(o: Moved) -> Drive
-    ensures { λ r. ⌜ r ≡ o .drive ⌝ }
+pub fn taken_server(o: Taken) -> Server
+    ensures { λ r. ⌜ r ≡ o .server ⌝ }
 {
-    o.drive
+    o.server
 }

@@ -1,7 +1,8 @@
 // A drive lent by the host. On a refusal the drive, and the output where one is lent, stay as they were lent.
 ghost use mathlib.Core.Path.{_≡_};
-ghost use Rattle.door.specs.Exchange.{takeReply};
+ghost use Rattle.door.specs.Exchange.{takeReply, post};
 ghost use Rattle.drive.specs.Host.{start, recover, again, moveOn};
+use door::Due;
 use drive::Drive;
 use rules::Pieces;
 
@@ -17,8 +18,8 @@ pub extern "C" fn drobulets_drive_start(
         × (now (d .exit) ≡ start (now (d .entry)) coordinator t pieces .drive) ⌝ }
 {
     let o = drive_host::start(*d, coordinator, t, pieces);
-    let answer = door::told::moved_refusal(o);
-    *d = door::told::moved_drive(o);
+    let answer = drive_lent::refusal_of(o);
+    *d = drive_lent::drive_of(o);
     answer
 }
 
@@ -35,8 +36,8 @@ pub extern "C" fn drobulets_drive_recover(
         × (now (d .exit) ≡ recover (now (d .entry)) coordinator t pieces floor .drive) ⌝ }
 {
     let o = drive_host::recover(*d, coordinator, t, pieces, floor);
-    let answer = door::told::moved_refusal(o);
-    *d = door::told::moved_drive(o);
+    let answer = drive_lent::refusal_of(o);
+    *d = drive_lent::drive_of(o);
     answer
 }
 
@@ -46,8 +47,8 @@ pub extern "C" fn drobulets_drive_again(d: &mut Drive) -> u32
     ensures { λ r. ⌜ (r ≡ again (now (d .entry)) .refusal) × (now (d .exit) ≡ again (now (d .entry)) .drive) ⌝ }
 {
     let o = drive_host::again(*d);
-    let answer = door::told::moved_refusal(o);
-    *d = door::told::moved_drive(o);
+    let answer = drive_lent::refusal_of(o);
+    *d = drive_lent::drive_of(o);
     answer
 }
 
@@ -57,8 +58,8 @@ pub extern "C" fn drobulets_drive_move_on(d: &mut Drive) -> u32
     ensures { λ r. ⌜ (r ≡ moveOn (now (d .entry)) .refusal) × (now (d .exit) ≡ moveOn (now (d .entry)) .drive) ⌝ }
 {
     let o = drive_host::move_on(*d);
-    let answer = door::told::moved_refusal(o);
-    *d = door::told::moved_drive(o);
+    let answer = drive_lent::refusal_of(o);
+    *d = drive_lent::drive_of(o);
     answer
 }
 
@@ -69,7 +70,16 @@ pub extern "C" fn drobulets_drive_take(d: &mut Drive, input: &[u8]) -> u32
         × (now (d .exit) ≡ takeReply (now (d .entry)) (now (input .entry)) .drive) ⌝ }
 {
     let o = door::exchange::take_reply(*d, input);
-    let answer = door::told::moved_refusal(o);
-    *d = door::told::moved_drive(o);
+    let answer = drive_lent::refusal_of(o);
+    *d = drive_lent::drive_of(o);
     answer
+}
+
+// The message due, at the front of the output, and the servers that it is due to.
+#[no_mangle]
+pub extern "C" fn drobulets_drive_due(d: &Drive, output: &mut [u8]) -> Due
+    ensures { λ r. ⌜ (r ≡ post (now (d .entry)) (now (output .entry)) .told)
+        × (now (output .exit) ≡ post (now (d .entry)) (now (output .entry)) .output) ⌝ }
+{
+    door::exchange::post(*d, output)
 }

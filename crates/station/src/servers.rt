@@ -1,9 +1,11 @@
 // A server lent by the host. On a refusal the server stays as it was lent.
 ghost use mathlib.Core.Path.{_≡_};
+ghost use Rattle.door.specs.Exchange.{take};
 ghost use Rattle.server.specs.Host.{fresh, wanted};
 ghost use Rattle.server.specs.Run.{run, runAll};
 ghost use Rattle.door.specs.Told.{counted};
 ghost use Rattle.door.specs.Readings.{counter, logEntry, result};
+use door::Answer;
 use door::Counted;
 use door::LogEntry;
 use door::Reading;
@@ -18,6 +20,19 @@ pub extern "C" fn drobulets_server_fresh(s: &mut Server, id: u32) -> u32
     let o = server_run::fresh(*s, id);
     let answer = door::told::begun_refusal(o);
     *s = door::told::begun_server(o);
+    answer
+}
+
+// A message, and its reply at the front of the output. Bytes that do not decode are refused first (10, 12, 11), then the step refuses in its own order, then encoding (12, 14).
+#[no_mangle]
+pub extern "C" fn drobulets_server_take(s: &mut Server, input: &[u8], output: &mut [u8]) -> Answer
+    ensures { λ r. ⌜ (r ≡ take (now (s .entry)) (now (input .entry)) (now (output .entry)) .answer)
+        × (now (s .exit) ≡ take (now (s .entry)) (now (input .entry)) (now (output .entry)) .server)
+        × (now (output .exit) ≡ take (now (s .entry)) (now (input .entry)) (now (output .entry)) .output) ⌝ }
+{
+    let o = door::exchange::take(*s, input, output);
+    let answer = door::told::taken_answer(o);
+    *s = door::told::taken_server(o);
     answer
 }
 
