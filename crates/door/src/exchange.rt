@@ -1,0 +1,103 @@
+// Bytes in, bytes out: a message is decoded and taken by a step, and an answer is encoded. On a refusal of any of these the state and the output stay as they were lent.
+ghost use mathlib.Core.Path.{_≡_};
+ghost use Rattle.door.specs.Exchange.{taken, take, takeReply, post};
+use crate::Answer;
+use crate::Due;
+use crate::Taken;
+use drive::Drive;
+use drive::Moved;
+use server::Server;
+
+// A message to a server, and its reply.
+pub fn take(s: Server, input: &[u8], output: &mut [u8]) -> Taken
+    ensures { λ r. ⌜ (r ≡ taken (take s (now (input .entry)) (now (output .entry))))
+        × (now (output .exit) ≡ take s (now (input .entry)) (now (output .entry)) .output) ⌝ }
+{
+    let d = codec::decode(input);
+    let unread = d.refusal != 0;
+    if unread {
+        return Taken {
+            answer: refused(d.refusal),
+            server: s,
+        };
+    }
+    let v = server_step::step(s, d.message);
+    let untaken = v.refusal != 0;
+    if untaken {
+        return Taken {
+            answer: refused(v.refusal),
+            server: s,
+        };
+    }
+    let e = codec::encode(v.reply, output);
+    let unwritten = e.refusal != 0;
+    if unwritten {
+        return Taken {
+            answer: refused(e.refusal),
+            server: s,
+        };
+    }
+    let server = v.server;
+    Taken {
+        answer: Answer {
+            refusal: 0,
+            length: e.length,
+        },
+        server: server,
+    }
+}
+
+fn refused(refusal: u32) -> Answer
+    ensures { λ r. ⌜ r ≡ record { refusal = refusal; length = 0 } ⌝ }
+{
+    Answer {
+        refusal: refusal,
+        length: 0,
+    }
+}
+
+// A reply to a drive.
+pub fn take_reply(d: Drive, input: &[u8]) -> Moved
+    ensures { λ r. ⌜ r ≡ takeReply d (now (input .entry)) ⌝ }
+{
+    let m = codec::decode(input);
+    let unread = m.refusal != 0;
+    if unread {
+        return Moved {
+            refusal: m.refusal,
+            drive: d,
+        };
+    }
+    drive_step::hear(d, m.message)
+}
+
+// The message due to a drive's servers.
+pub fn post(d: Drive, output: &mut [u8]) -> Due
+    ensures { λ r. ⌜ (r ≡ post d (now (output .entry)) .told) × (now (output .exit) ≡ post d (now (output .entry)) .output) ⌝ }
+{
+    let v = drive_host::sending::due(d);
+    let idle = v.refusal != 0;
+    if idle {
+        return not_due(v.refusal);
+    }
+    let e = codec::encode(v.message, output);
+    let unwritten = e.refusal != 0;
+    if unwritten {
+        return not_due(e.refusal);
+    }
+    Due {
+        refusal: 0,
+        length: e.length,
+        servers: v.servers,
+    }
+}
+
+fn not_due(refusal: u32) -> Due
+    ensures { λ r. ⌜ r ≡ record { refusal = refusal; length = 0; servers = 0 } ⌝ }
+{
+    Due {
+        refusal: refusal,
+        length: 0,
+        servers: 0,
+    }
+}

@@ -1,0 +1,91 @@
+// A server lent by the host. On a refusal the server stays as it was lent.
+ghost use mathlib.Core.Path.{_≡_};
+ghost use Rattle.door.specs.Exchange.{take};
+ghost use Rattle.server.specs.Host.{fresh, wanted};
+ghost use Rattle.server.specs.Run.{run, runAll};
+ghost use Rattle.door.specs.Told.{counted};
+ghost use Rattle.door.specs.Readings.{counter, logEntry, result};
+use door::Answer;
+use door::Counted;
+use door::LogEntry;
+use door::Reading;
+use server::Server;
+use server::Wants;
+
+// A fresh server `id` in the lent place, whatever stood there. Answers the refusal, or 0.
+#[no_mangle]
+pub extern "C" fn drobulets_server_fresh(s: &mut Server, id: u32) -> u32
+    ensures { λ r. ⌜ (r ≡ fresh (now (s .entry)) id .refusal) × (now (s .exit) ≡ fresh (now (s .entry)) id .server) ⌝ }
+{
+    let o = server_run::fresh(*s, id);
+    let answer = door::told::begun_refusal(o);
+    *s = door::told::begun_server(o);
+    answer
+}
+
+// A message, and its reply at the front of the output. Bytes that do not decode are refused first (10, 12, 11), then the step refuses in its own order, then encoding (12, 14).
+#[no_mangle]
+pub extern "C" fn drobulets_server_take(s: &mut Server, input: &[u8], output: &mut [u8]) -> Answer
+    ensures { λ r. ⌜ (r ≡ take (now (s .entry)) (now (input .entry)) (now (output .entry)) .answer)
+        × (now (s .exit) ≡ take (now (s .entry)) (now (input .entry)) (now (output .entry)) .server)
+        × (now (output .exit) ≡ take (now (s .entry)) (now (input .entry)) (now (output .entry)) .output) ⌝ }
+{
+    let o = door::exchange::take(*s, input, output);
+    let answer = door::told::taken_answer(o);
+    *s = door::told::taken_server(o);
+    answer
+}
+
+// One run.
+#[no_mangle]
+pub extern "C" fn drobulets_server_run(s: &mut Server) -> Counted
+    ensures { λ r. ⌜ (r ≡ counted (run (now (s .entry)))) × (now (s .exit) ≡ run (now (s .entry)) .server) ⌝ }
+{
+    let o = server_run::run(*s);
+    let answer = door::told::ran_counted(o);
+    *s = door::told::ran_server(o);
+    answer
+}
+
+// Runs until nothing is ready.
+#[no_mangle]
+pub extern "C" fn drobulets_server_run_all(s: &mut Server) -> Counted
+    ensures { λ r. ⌜ (r ≡ counted (runAll (now (s .entry)))) × (now (s .exit) ≡ runAll (now (s .entry)) .server) ⌝ }
+{
+    let o = server_run::run_all(*s);
+    let answer = door::told::ran_counted(o);
+    *s = door::told::ran_server(o);
+    answer
+}
+
+// The wanted set.
+#[no_mangle]
+pub extern "C" fn drobulets_server_wanted(s: &Server) -> Wants
+    ensures { λ r. ⌜ r ≡ wanted (now (s .entry)) ⌝ }
+{
+    server_run::wanted(*s)
+}
+
+// The counter of a key. Readers judge nothing.
+#[no_mangle]
+pub extern "C" fn drobulets_server_counter(s: &Server, key: u32) -> Reading
+    ensures { λ r. ⌜ r ≡ counter (now (s .entry)) key ⌝ }
+{
+    door::readings::counter(*s, key)
+}
+
+// The number at a place of the log.
+#[no_mangle]
+pub extern "C" fn drobulets_server_log(s: &Server, place: u32) -> LogEntry
+    ensures { λ r. ⌜ r ≡ logEntry (now (s .entry)) place ⌝ }
+{
+    door::readings::log_entry(*s, place)
+}
+
+// A result of the number `t`, in the order of its pieces on this server's shard.
+#[no_mangle]
+pub extern "C" fn drobulets_server_result(s: &Server, t: u32, place: u32) -> Reading
+    ensures { λ r. ⌜ r ≡ result (now (s .entry)) t place ⌝ }
+{
+    door::readings::result(*s, t, place)
+}

@@ -1,0 +1,194 @@
+"""What the sources say of a thin function: its parameters and answer, the functions that it calls, and their contracts."""
+import pathlib
+import re
+from public_functions import public_functions, without_comments
+
+
+def place(i):
+    """The path to the component i of (x, (y, tt))."""
+    return ' .1' * i + ' .0'
+
+
+def hyphens(path):
+    return path.replace('::', '·').replace('_', '-')
+
+
+def home_of(name, crate):
+    """The crate that declares the struct `name` as `crate` sees it."""
+    texts = [p.read_text(encoding='utf-8') for p in pathlib.Path('crates', crate, 'src').glob('**/*.rt')]
+    for text in texts:
+        if re.search(rf'\bpub struct {name}\b', text):
+            return crate
+    for text in texts:
+        used = re.search(rf'\buse (\w+)::{name};', text)
+        if used and used.group(1) != 'crate':
+            return used.group(1)
+    raise SystemExit(f'{crate} knows no struct {name}')
+
+
+class Struct:
+    """A declared type, under a short name for its row and its laws."""
+
+    def __init__(self, name, crate, short):
+        self.type, self.short = name, short
+        self.home = home_of(name, crate)
+        self.row = f'{short}.the-row'
+        self.makes = f'(LL.makes {short}.the-type {short}′.the-plain 𝓤 H A)'
+
+    def vals(self):
+        return f'LL.vals {self.short}.the-type {self.short}′.the-laws'
+
+    def val(self, x):
+        return f'LL.val {self.short}.the-type {self.short}′.the-laws {x}'
+
+    def tells(self):
+        return f'LL.tells {self.short}.the-type {self.short}′.the-laws'
+
+    def typed(self, x, known):
+        return f'LL.lawful {self.short}.the-type {self.short}′.the-laws 𝓤 H A W .typed {x} _ {known} .0'
+
+    def uses(self):
+        return [f'use Rattle.{self.home}.specs.declared.{self.type}.{{{self.type}}}',
+                f'use Rattle.{self.home}.proofs.{self.type} as {self.short}',
+                f'use Rattle.{self.home}.proofs.{self.type}.Laws as {self.short}′']
+
+
+class Number:
+    """u32."""
+    type, row, makes = 'ℕ', 'u32', '(uint-makes 𝓤 H A W w32)'
+
+    def typed(self, x, known):
+        return f'uint-lawful 𝓤 H A W w32 .typed {x} _ {known} .0'
+
+    def uses(self):
+        return []
+
+
+def kind_of(name, short):
+    return Number() if name == 'u32' else Struct(name, 'station', short)
+
+
+class Parameter:
+    """A parameter after the state: its name, and how the walk speaks of it. `lifetime` is the number of its own, `many` how many the function has."""
+
+    def __init__(self, name, kind, lifetime, many):
+        x, self.name, self.kind, self.lifetime, self.structs = name, name, kind, lifetime, []
+        if self.kind == 'u32':
+            self.denotes, self.given, self.value, self.row = 'ℕ', x, f'vint w32 {x}', 'u32'
+            self.fits, self.proof = f'{x} < 2 ^ 32', ' .1'
+            self.typed = f'(tt, record {{ fits = {x}-fits }})'
+            self.vals, self.tells, slot = 'uint-vals w32', 'uint-tells w32', '(plain (λ _. u32))'
+        elif self.kind in ('&[u8]', '&mut [u8]'):
+            shared = self.kind == '&[u8]'
+            self.denotes, self.given = 'RefT (List ℕ)', f'({x} .now)'
+            self.value = f'sliceVal ({x} .ptr) (length ({x} .now))'
+            self.row = f'{"ShrSlice" if shared else "MutSlice"} (named {lifetime}) κ{lifetime} u8'
+            self.fits, self.proof = f'Room u8 (length ({x} .now))', ' .0 .1'
+            self.typed = f'(tt, (tt, (record {{ fits = {x}-fits .0 }}, tt)))'
+            self.vals, slot = 'slice-vals', f'(shrSliceOf ({lifetime} ∷ []) tt (plain (λ _. u8)))'
+            self.tells = f'{"shr" if shared else "mut"}-slice-tells (named {lifetime}) (κs{place(lifetime)}) u8'
+        else:
+            struct = Struct(self.kind, 'station', self.kind[0] + self.kind[-1])
+            self.structs = [struct]
+            self.denotes, self.given, self.value, self.row = struct.type, x, struct.val(x), struct.row
+            self.fits, self.proof = f'Is {struct.row} {x} ({struct.val(x)} ∷ [])', ''
+            self.typed = f'({struct.typed(x, f"{x}-fits")})'
+            self.vals, self.tells, slot = struct.vals(), struct.tells(), f'(plain (λ _. {struct.row}))'
+        if self.written:
+            self.stays = f'gave-slice ({lifetime} ∷ []) tt (plain (λ _. u8))'
+            self.goes = f'goes-gave-slice 𝓤 H A W {many} {lifetime} tt (plain (λ _. u8))'
+        else:
+            self.stays = f'stay-dropped {slot} yes'
+            self.goes = f'goes-dropped 𝓤 H A W {many} {slot} yes (λ κs x f. refl)'
+
+    @property
+    def lent(self):
+        return self.kind.startswith('&')
+
+    @property
+    def written(self):
+        return self.kind == '&mut [u8]'
+
+
+def source_of(crate, path):
+    """The text of the file that declares a function."""
+    file = '/'.join(path.split('::')[:-1]) or 'lib'
+    return without_comments(pathlib.Path('crates', crate, 'src', f'{file}.rt').read_text(encoding='utf-8'))
+
+
+def definitions_in(text):
+    """The definitions that a file's contracts cite, each with the module that another crate has it from."""
+    found = re.findall(r'ghost use (Rattle·\S+?)\.\{(.*?)\};', text)
+    return [(re.sub(r'·specs\.specs\.', '.specs.', module), name.strip()) for module, names in found for name in names.split(',')]
+
+
+def clauses_of(ensures):
+    """The facts of a contract, without the parentheses around each."""
+    said = re.match(r'λ r\. ⌜ (.*) ⌝$', ensures).group(1)
+    parts, depth, last = [], 0, 0
+    for at, c in enumerate(said):
+        depth += (c == '(') - (c == ')')
+        if c == '×' and depth == 0:
+            parts.append(said[last:at].strip())
+            last = at + 1
+    parts.append(said[last:].strip())
+    return parts if len(parts) == 1 else [p[1:-1] for p in parts]
+
+
+class Callee:
+    """A function that the thin one calls."""
+
+    def __init__(self, path, alias):
+        crate, rest = path.split('::', 1)
+        found = [f for f in public_functions() if (f.crate, f.path) == (crate, rest)]
+        if not found:
+            raise SystemExit(f'{path} is no public function')
+        f = found[0]
+        self.path, self.crate, self.alias, self.answer = path, crate, alias, f.answer
+        self.params = [name for name, _ in f.params]
+        self.facts = [c.split(' ≡ ', 1)[1] for c in clauses_of(f.ensures[0])]
+        self.module = f'Rattle.{crate}.proofs.{f.module}'
+        self.key = hyphens(path)
+        self.definitions = definitions_in(source_of(crate, rest))
+
+    def says(self, fact, given):
+        """What a clause of its contract says, where its parameters are `given`."""
+        term = self.facts[fact]
+        for i, name in enumerate(self.params):
+            term = re.sub(rf'\(now \({name} \.entry\)\)|(?<![\w.·-]){name}(?![\w·-])', f'<{i}>', term)
+        for i, x in enumerate(given):
+            term = term.replace(f'<{i}>', x)
+        return term
+
+    def uses(self):
+        return [f'use {self.module} as {self.alias}', f'use {self.module}.Symbol as {self.alias}-def',
+                f'use {self.module}.Symbol.{{name as #{self.key}}}', f'use {self.module}.Met as {self.alias}-thm']
+
+
+class Thin:
+    """One exported function that is lent a state."""
+
+    def __init__(self, f):
+        self.name, self.path = f.path.split('::')[-1], f.path
+        (self.s, lent), *others = f.params
+        self.changes = lent.startswith('&mut ')
+        self.state = Struct(lent.split()[-1].lstrip('&'), 'station', 'T')
+        slices = [name for name, kind in others if kind.startswith('&')]
+        self.lifetimes = 1 + len(slices)
+        self.others = [Parameter(name, kind, 1 + slices.index(name) if name in slices else None, self.lifetimes) for name, kind in others]
+        self.output = next((j for j, p in enumerate(self.others) if p.written), None)
+        self.answer = kind_of(f.answer, 'P')
+        body = re.search(rf'\bfn {self.name}\b.*?\n\{{\n(.*?)\n\}}', source_of('station', f.path), re.S).group(1)
+        calls = re.findall(r'((?:\w+::)+\w+)\(', body)
+        self.work = Callee(calls[0], 'work')
+        self.given = [self.s] + [p.given for p in self.others]
+        self.callees = [self.work]
+        if self.changes:
+            self.outcome = Struct(self.work.answer, self.work.crate, 'O')
+            self.tell, self.leave = Callee(calls[1], 'tell'), Callee(calls[2], 'leave')
+            self.callees += [self.tell, self.leave]
+
+
+def thin_functions():
+    """The exported functions that are lent a state."""
+    return [Thin(f) for f in public_functions() if f.crate == 'station' and f.exported and f.params and re.match(r'&(mut )?[A-Z]', f.params[0][1])]
