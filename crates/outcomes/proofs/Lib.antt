@@ -1,5 +1,6 @@
 pub mod Codec
 pub mod Counters
+pub mod Door
 pub mod DriveDecide
 pub mod DriveForm
 pub mod DriveHost
@@ -16,4 +17,5 @@ pub mod ServerChange
 pub mod ServerForm
 pub mod ServerRun
 pub mod ServerStep
+pub mod Station
 pub mod Xdr
