@@ -16,6 +16,7 @@ class Function:
     ensures: list
     exported: bool
     uses: list
+    imports: dict
 
     @property
     def name(self):
@@ -102,8 +103,9 @@ def public_functions(root='.'):
         text = without_comments(lib.read_text(encoding='utf-8'))
         for prefix, body in modules(lib.parent, text, []):
             uses = re.findall(r'ghost use ([^;]+);', body)
+            imports = {name: owner for owner, name in re.findall(r'(?m)^use (\w+)::(?:\w+::)*(\w+);', body)}
             for found_one in functions_of(body, prefix):
-                found.append(Function(crate, *found_one, uses))
+                found.append(Function(crate, *found_one, uses, imports))
     return found
 
 

@@ -4,7 +4,7 @@ use mathlib.Core.Path.{_≡_, sym, _∙_}
 use Prim.Native.Nat.{ℕ}
 use lib.IntN.{ℤ}
 use mathlib.Core.List.{List}
-use Rattle.drive.specs.declared.Answer.{Answer}
+use Rattle.door.specs.declared.Answer.{Answer as door·Answer}
 use Rattle.door.specs.declared.Counted.{Counted}
 use Rattle.drive.specs.declared.Drive.{Drive}
 use Rattle.door.specs.declared.Due.{Due}
@@ -28,7 +28,7 @@ drive-lent·hear-lent d m r r₂ d′ d′₂ p q = (p .0 ∙ sym (q .0), p .1 �
 pub station·servers·drobulets-server-fresh : (s : Server) (id : ℕ) (r r₂ : ℕ) (s′ s′₂ : Server) → ((r ≡ fresh (s) id .refusal) × (s′ ≡ fresh (s) id .server)) → ((r₂ ≡ fresh (s) id .refusal) × (s′₂ ≡ fresh (s) id .server)) → (r ≡ r₂) × (s′ ≡ s′₂)
 station·servers·drobulets-server-fresh s id r r₂ s′ s′₂ p q = (p .0 ∙ sym (q .0), p .1 ∙ sym (q .1))
 
-pub station·servers·drobulets-server-take : (s : Server) (input : List ℕ) (output : List ℕ) (r r₂ : Answer) (s′ s′₂ : Server) (output′ output′₂ : List ℕ) → ((r ≡ take (s) (input) (output) .answer) × (s′ ≡ take (s) (input) (output) .server) × (output′ ≡ take (s) (input) (output) .output)) → ((r₂ ≡ take (s) (input) (output) .answer) × (s′₂ ≡ take (s) (input) (output) .server) × (output′₂ ≡ take (s) (input) (output) .output)) → (r ≡ r₂) × (s′ ≡ s′₂) × (output′ ≡ output′₂)
+pub station·servers·drobulets-server-take : (s : Server) (input : List ℕ) (output : List ℕ) (r r₂ : door·Answer) (s′ s′₂ : Server) (output′ output′₂ : List ℕ) → ((r ≡ take (s) (input) (output) .answer) × (s′ ≡ take (s) (input) (output) .server) × (output′ ≡ take (s) (input) (output) .output)) → ((r₂ ≡ take (s) (input) (output) .answer) × (s′₂ ≡ take (s) (input) (output) .server) × (output′₂ ≡ take (s) (input) (output) .output)) → (r ≡ r₂) × (s′ ≡ s′₂) × (output′ ≡ output′₂)
 station·servers·drobulets-server-take s input output r r₂ s′ s′₂ output′ output′₂ p q = (p .0 ∙ sym (q .0), p .1 ∙ sym (q .1), p .2 ∙ sym (q .2))
 
 pub station·servers·drobulets-server-run : (s : Server) (r r₂ : Counted) (s′ s′₂ : Server) → ((r ≡ counted (run (s))) × (s′ ≡ run (s) .server)) → ((r₂ ≡ counted (run (s))) × (s′₂ ≡ run (s) .server)) → (r ≡ r₂) × (s′ ≡ s′₂)
