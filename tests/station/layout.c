@@ -2,13 +2,13 @@
 #include "check.h"
 
 /* The largest numbers that each kind of field may have in a state that keeps its form. */
-static const drobulets_set EARLIER = {0, 0x0123456789ABCDEFu, 0, 0x7EDCBA9876543210u};
+static const drobulets_set EARLIER = {.w1 = 0x0123456789ABCDEFu, .w3 = 0x7EDCBA9876543210u};
 
 static drobulets_pieces eight_pieces(void)
 {
     drobulets_piece list[8];
     for (uint32_t i = 0; i < 8; i++)
-        list[i] = (drobulets_piece){i < 2 ? 1 : 3, i < 2 ? i : 2 * i + 1, i % 2 ? DROBULETS_PUT : DROBULETS_ADD, -7000000 - (int32_t)i};
+        list[i] = (drobulets_piece){.shard = i < 2 ? 1 : 3, .key = i < 2 ? i : 2 * i + 1, .kind = i % 2 ? DROBULETS_PUT : DROBULETS_ADD, .operand = -7000000 - (int32_t)i};
     return pieces_of(list, 8);
 }
 
@@ -106,6 +106,33 @@ static void drive_fields(void)
     free(drive);
 }
 
+static uint32_t word_at(const uint8_t *bytes, size_t place)
+{
+    return (uint32_t)bytes[place] << 24 | (uint32_t)bytes[place + 1] << 16 | (uint32_t)bytes[place + 2] << 8 | bytes[place + 3];
+}
+
+static uint64_t hyper_at(const uint8_t *bytes, size_t place)
+{
+    return (uint64_t)word_at(bytes, place) << 32 | word_at(bytes, place + 4);
+}
+
+/* The bytes of an Accept say which field is which: code, T, ballot, count, the pieces, the set. */
+static void accept_bytes(void)
+{
+    uint8_t bytes[DROBULETS_LONGEST];
+    drobulets_message accept = about_63(DROBULETS_ACCEPT, 65535);
+    CHECK(drobulets_encode(accept, bytes, sizeof bytes).length == DROBULETS_LONGEST);
+    CHECK(word_at(bytes, 0) == DROBULETS_ACCEPT && word_at(bytes, 4) == 63 && word_at(bytes, 8) == 65535 && word_at(bytes, 12) == 8);
+    for (uint32_t i = 0; i < 8; i++) {
+        drobulets_piece piece = accept.pieces.list[i];
+        size_t at = 16 + 16 * i;
+        CHECK(word_at(bytes, at) == piece.shard && word_at(bytes, at + 4) == piece.key);
+        CHECK(word_at(bytes, at + 8) == piece.kind && (int32_t)word_at(bytes, at + 12) == piece.operand);
+    }
+    CHECK(hyper_at(bytes, 144) == 0 && hyper_at(bytes, 152) == EARLIER.w1);
+    CHECK(hyper_at(bytes, 160) == 0 && hyper_at(bytes, 168) == EARLIER.w3);
+}
+
 /* Messages go by value in both directions. */
 static void message_fields(void)
 {
@@ -148,6 +175,7 @@ int main(void)
     fresh_fields();
     server_fields();
     drive_fields();
+    accept_bytes();
     message_fields();
     printf("layout: %s\n", failures ? "bad" : "ok");
     return failures != 0;
