@@ -44,12 +44,12 @@ extern "C" {
     fn drobulets_server_run(server: &mut layout::Server) -> Ran;
     fn drobulets_server_run_all(server: &mut layout::Server) -> Ran;
     fn drobulets_server_wanted(server: &layout::Server) -> Wants;
-    fn drobulets_drive_start(drive: &mut layout::Drive, coordinator: u32, t: u32, pieces: &layout::Pieces) -> u32;
+    fn drobulets_drive_start(drive: &mut layout::Drive, coordinator: u32, t: u32, pieces: layout::Pieces) -> u32;
     fn drobulets_drive_recover(
         drive: &mut layout::Drive,
         coordinator: u32,
         t: u32,
-        pieces: &layout::Pieces,
+        pieces: layout::Pieces,
         floor: u32,
     ) -> u32;
     fn drobulets_drive_again(drive: &mut layout::Drive) -> u32;
@@ -106,7 +106,7 @@ impl Engine for Archive {
     }
 
     fn start(&self, drive: &mut layout::Drive, coordinator: u32, t: u32, pieces: &Pieces) -> Result<(), Refusal> {
-        judged(unsafe { drobulets_drive_start(drive, coordinator, t, &image::pieces_image(pieces)) }, ())
+        judged(unsafe { drobulets_drive_start(drive, coordinator, t, image::pieces_image(pieces)) }, ())
     }
 
     fn recover(
@@ -117,7 +117,7 @@ impl Engine for Archive {
         pieces: &Pieces,
         floor: u32,
     ) -> Result<(), Refusal> {
-        judged(unsafe { drobulets_drive_recover(drive, coordinator, t, &image::pieces_image(pieces), floor) }, ())
+        judged(unsafe { drobulets_drive_recover(drive, coordinator, t, image::pieces_image(pieces), floor) }, ())
     }
 
     fn again(&self, drive: &mut layout::Drive) -> Result<(), Refusal> {
