@@ -30,7 +30,8 @@ use Rattle.drive.specs.Form.{numbersFormed, ballotsFormed, wordFormed, a
 use Rattle.drive.specs.Hear.{says}
 use Rattle.drive.proofs.Passed.{accepted, takes}
 use Rattle.drive.proofs.FormParts.{Formed}
-use Rattle.drive.proofs.Decided.{Decision, highest2, equal2, again1, quick3, union2, voted3, decision, then-yes, yes-then}
+use Rattle.drive.proofs.Decided.{Decision, highest2, equal2, again1, quick3, union2, voted3, decision}
+use Rattle.drive.proofs.Implied.{then-yes, yes-then}
 
 -- ---- with no answers counted
 

@@ -9,11 +9,11 @@ use lib.Dec.{eqb, ltb, leb, lit<}
 use Rattle.masks.specs.Bits.{has}
 use Rattle.masks.specs.Folds.{countBelow}
 use Rattle.masks.proofs.FoldLaws.{all-at, all-of}
-use Rattle.rules.specs.Flags.{implies}
 use Rattle.rules.specs.Cluster.{serverOf}
 use Rattle.drive.specs.declared.Drive.{Drive}
 use Rattle.drive.specs.Held.{counted, touched, addressed, toPhase, toPhase1, answerAt}
 use Rattle.drive.specs.Decide.{answered, allAnswered, countedIn, twoIn, twoInEach, decided, equalWords, highest, unions, decide0, decide1, decide2, decide}
+use Rattle.drive.proofs.Implied.{then-yes, yes-then}
 
 -- which decisions there are
 pub data Decision (d : Drive) : Drive → Type 0 where
@@ -55,13 +55,6 @@ decision-ballot (union2 p) = record { number = refl; ballot = refl }
 decision-ballot (voted3 p q) = record { number = refl; ballot = refl }
 
 -- ---- all servers of a shard are two of it
-
-pub then-yes : (a b : Bool) → implies a b ≡ true → a ≡ true → b ≡ true
-then-yes a b e h = cc
-
-pub yes-then : (a b : Bool) → (a ≡ true → b ≡ true) → implies a b ≡ true
-yes-then true b f = f refl
-yes-then false b f = refl
 
 three-count : (f : ℕ → Bool) → f 0 ≡ true → f 1 ≡ true → f 2 ≡ true → leb 2 (countBelow f 3) ≡ true
 unfolding countBelow

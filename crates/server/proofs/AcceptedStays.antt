@@ -1,6 +1,5 @@
 -- Document 01, "What a server does", PreAccept: whatever the server has accepted, it holds on to; a PreAccept, first or repeated, refused or not, does not take it away. Assumes nothing.
 use mathlib.Core.Path.{_≡_, refl, _∙_, ap}
-use mathlib.Core.Bool.{Bool, true, false, cond}
 use Prim.Native.Nat.{ℕ}
 use lib.Dec.{eqb}
 use borrow.Author.Tests.{eq-eqb}
@@ -12,24 +11,21 @@ use Rattle.server.specs.declared.Record.{Record}
 use Rattle.server.specs.declared.Server.{Server}
 use Rattle.server.specs.declared.Changed.{Changed}
 use Rattle.server.specs.Held.{recordAt}
-use Rattle.server.specs.Changes.{promised, withArrival, arrive, preAccepted, change}
+use Rattle.server.specs.Changes.{promised, arrive, preAccepted, change}
 use Rattle.server.specs.Serve.{serve, arrivalFor}
-use Rattle.server.proofs.PartStays.{asked-part, serve-part}
+use Rattle.server.proofs.PartStays.{either-part, asked-part, serve-part}
+
+arrival-leaves-accepted : (w : ℕ) (v : Record) → arrive w v .accepted ≡ v .accepted
+unfolding arrive
+arrival-leaves-accepted w v = either-part (λ (u : Record). u .accepted) (v .accepted) (there (v .arrival .some)) _ _ refl refl
 
 module _ (id w : ℕ) (v : Record) (m : Message) where
-  arrival-leaves-accepted : preAccepted id w v m .after .accepted ≡ v .accepted
-  unfolding preAccepted arrive
-  arrival-leaves-accepted = go (there (v .arrival .some))
-    where
-      go : (a : Bool) → (cond a (promised m v) (withArrival w (promised m v))) .accepted ≡ v .accepted
-      go true = refl
-      go false = refl
 
   preAccept-leaves-accepted : m .code ≡ PreAccept → change id w v m .after .accepted ≡ v .accepted
-  unfolding change
+  unfolding change preAccepted
   preAccept-leaves-accepted e =
       ap (λ (c : Changed). c .after .accepted) (cond-true (eqb (m .code) PreAccept) _ _ (eq-eqb (m .code) PreAccept e))
-      ∙ asked-part (λ v. v .accepted) id v m (preAccepted id w v m) arrival-leaves-accepted
+      ∙ asked-part (λ v. v .accepted) id v m (preAccepted id w v m) (arrival-leaves-accepted w (promised m v))
 
 pub accepted-stays : (s : Server) (m : Message) → m .code ≡ PreAccept → (t : ℕ) → recordAt (serve s m .server) t .accepted ≡ recordAt s t .accepted
 accepted-stays s m e t =

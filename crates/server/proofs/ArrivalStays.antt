@@ -1,6 +1,6 @@
 -- Document 01, "What a server does", PreAccept: once a number's arrival set is fixed at a server, it is fixed for good; no message and no run changes it. Assumes nothing.
 use mathlib.Core.Path.{_≡_, refl, sym, ap, _∙_}
-use mathlib.Core.Bool.{Bool, true, false, cond}
+use mathlib.Core.Bool.{Bool, true, cond}
 use Prim.Native.Nat.{ℕ}
 use lib.Dec.{eqb}
 use Rattle.masks.proofs.Bools.{cond-true}
@@ -15,7 +15,7 @@ use Rattle.server.specs.Changes.{promised, withArrival, withCommitted, a
 use Rattle.server.specs.Serve.{serve, arrivalFor}
 use Rattle.server.specs.Run.{run, runAll}
 use Rattle.server.proofs.RunLeaves.{run-leaves, runAll-leaves}
-use Rattle.server.proofs.PartStays.{asked-part, serve-part}
+use Rattle.server.proofs.PartStays.{either-part, asked-part, serve-part}
 
 -- a second arrival is none
 arrive-again : (w : ℕ) (v : Record) → there (v .arrival .some) ≡ true → arrive w v .arrival ≡ v .arrival
@@ -35,16 +35,11 @@ module _ (id w : ℕ) (v : Record) (m : Message) (there-is : there (v .arrival .
 
   commit-leaves : Leaves (committed id v m)
   unfolding committed
-  commit-leaves = go (there (v .committed .some))
-    where
-      go : (a : Bool) → (cond a v (withCommitted m v)) .arrival ≡ v .arrival
-      go true = refl
-      go false = refl
+  commit-leaves = either-part (λ (u : Record). u .arrival) (v .arrival) (there (v .committed .some)) v (withCommitted m v) refl refl
 
   -- one of two, by a test
   either : (b : Bool) (x y : Changed) → Leaves x → Leaves y → Leaves (cond b x y)
-  either true x y p q = p
-  either false x y p q = q
+  either b x y p q = either-part (λ (c : Changed). c .after .arrival) (v .arrival) b x y p q
 
   change-leaves-arrival : Leaves (change id w v m)
   unfolding change accepted prepared inquired fetched

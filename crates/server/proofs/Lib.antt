@@ -3,8 +3,8 @@ pub mod RunTurns
 pub mod Unchanged
 pub mod RunLeaves
 pub mod PartStays
-pub mod AcceptedStays
 pub mod ArrivalStays
+pub mod AcceptedStays
 pub mod Passed
 pub mod Did
 pub mod FormParts

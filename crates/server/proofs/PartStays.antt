@@ -15,16 +15,21 @@ use Rattle.server.specs.Refusals.{refusal}
 use Rattle.server.specs.Serve.{serve, taken, refused, arrivalFor}
 use Rattle.server.proofs.RunLeaves.{set-either}
 
+-- one of two, by a test: what is of both is of it
+pub either-part : {A C : Type 0} (part : C → A) (a : A) (b : Bool) (x y : C) → part x ≡ a → part y ≡ a → part (cond b x y) ≡ a
+either-part part a true x y p q = p
+either-part part a false x y p q = q
+
 module _ {A : Type 0} (part : Record → A) where
   -- Done and Behind change nothing
   pub asked-part : (id : ℕ) (v : Record) (m : Message) (c : Changed) → part (c .after) ≡ part v → part (asked id v m c .after) ≡ part v
   unfolding asked
-  asked-part id v m c e = go (there (v .committed .some)) (ltb (m .ballot) (v .promise))
+  asked-part id v m c e =
+      either-part after (part v) (there (v .committed .some)) (becomes v (done (m .t) (v .pieces) (v .committed .set))) _ refl
+      (either-part after (part v) (ltb (m .ballot) (v .promise)) (becomes v (behind (m .t) id (m .ballot) (v .promise))) c refl e)
     where
-      go : (a b : Bool) → part ((cond a (becomes v (done (m .t) (v .pieces) (v .committed .set))) (cond b (becomes v (behind (m .t) id (m .ballot) (v .promise))) c)) .after) ≡ part v
-      go true b = refl
-      go false true = refl
-      go false false = e
+      after : Changed → A
+      after c = part (c .after)
 
   -- of the record of the number t, where t is the message's if it has to be
   pub serve-part : (s : Server) (m : Message) (t : ℕ) →

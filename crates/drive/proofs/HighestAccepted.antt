@@ -1,0 +1,81 @@
+-- Document 01, "The drive", phase 0: if a counted answer holds an accepted set, the set taken to phase 2 is that of the highest accepted ballot, and of answers at one ballot that of the lowest server. Assumes nothing.
+use mathlib.Core.Path.{_≡_, refl, sym, _∙_, ap, subst}
+use mathlib.Core.Bool.{Bool, true, false, not, cond}
+use Prim.Native.Nat.{ℕ, zero, suc, _≤_, _<_}
+use native.Mathlib.Omega.{arith}
+use native.Mathlib.Decide.{ℕ-discrete}
+use borrow.Author.Tests.{eqb-true, eqb-false, eq-eqb, ltb-true, ltb-false, lt-ltb}
+use lib.Dec.{eqb, ltb}
+use Rattle.masks.specs.Folds.{iter}
+use Rattle.masks.proofs.Bools.{true-and-false, cond-true}
+use Rattle.drive.specs.declared.Drive.{Drive}
+use Rattle.drive.specs.Held.{answerAt, toPhase}
+use Rattle.drive.specs.Decide.{hasAccepted, better, highest, decide0, decide}
+
+module _ (d : Drive) where
+  abbrev pub ballotOf : ℕ → ℕ
+  ballotOf s = answerAt d s .accepted .ballot
+
+  -- of the servers below n that hold an accepted set, best is at a ballot that is at least every other's, and above those of the servers before it
+  pub record Best (n best : ℕ) : Type 0 where
+    pub below : best < n
+    pub holds : hasAccepted (answerAt d best) ≡ true
+    pub most : (s : ℕ) → s < n → hasAccepted (answerAt d s) ≡ true → answerAt d s .accepted .ballot ≤ answerAt d best .accepted .ballot
+    pub lowest : (s : ℕ) → s < best → hasAccepted (answerAt d s) ≡ true → answerAt d s .accepted .ballot < answerAt d best .accepted .ballot
+
+  pub data High (n : ℕ) (best : ℕ) : Type 0 where
+    nobody : best ≡ 12 → ((s : ℕ) → s < n → hasAccepted (answerAt d s) ≡ false) → High n best
+    somebody : Best n best → High n best
+
+  last-or : (P : ℕ → Type 0) (n : ℕ) → ((s : ℕ) → s < n → P s) → P n → (s : ℕ) → s < suc n → P s
+  last-or P n f h s l = go (ℕ-discrete s n)
+    where
+      go : Dec (s ≡ n) → P s
+      go (yes e) = subst P (sym e) h
+      go (no ne) = f s (omega arith)
+
+  abbrev AtMost : ℕ → ℕ → Type 0
+  AtMost b s = hasAccepted (answerAt d s) ≡ true → answerAt d s .accepted .ballot ≤ answerAt d b .accepted .ballot
+
+  better-high : (n best : ℕ) → n < 12 → High n best → High (suc n) (better d n best)
+  unfolding better
+  better-high n best l h = go (hasAccepted (answerAt d n)) refl (eqb best 12) refl (ltb (answerAt d best .accepted .ballot) (answerAt d n .accepted .ballot)) refl h
+    where
+      go : (a : Bool) → hasAccepted (answerAt d n) ≡ a → (b : Bool) → eqb best 12 ≡ b → (g : Bool) → ltb (answerAt d best .accepted .ballot) (answerAt d n .accepted .ballot) ≡ g → High n best → High (suc n) (cond (not a) best (cond b n (cond g n best)))
+      go false ea b eb g eg (nobody z f) = nobody z (last-or (λ s. hasAccepted (answerAt d s) ≡ false) n f ea)
+      go false ea b eb g eg (somebody h) = let k = h .below in somebody (record { below = omega arith; holds = h .holds; most = last-or (AtMost best) n (h .most) (λ q. absurd (true-and-false q ea)); lowest = h .lowest })
+      go true ea true eb g eg (nobody z f) = somebody (record { below = omega arith; holds = ea; most = last-or (AtMost n) n (λ s l q. absurd (true-and-false q (f s l))) (λ q. omega arith); lowest = λ s l q. absurd (true-and-false q (f s l)) })
+      go true ea true eb g eg (somebody h) = let k = h .below in absurd (omega (arith, eqb-true best 12 eb))
+      go true ea false eb g eg (nobody z f) = absurd (eqb-false best 12 eb z)
+      go true ea false eb true eg (somebody h) =
+          let q = ltb-true (answerAt d best .accepted .ballot) (answerAt d n .accepted .ballot) eg in
+          somebody (record { below = omega arith; holds = ea; most = last-or (AtMost n) n (λ s l p. omega (arith, h .most s l p)) (λ p. omega arith); lowest = λ s l p. omega (arith, h .most s l p) })
+      go true ea false eb false eg (somebody h) =
+          let q = ltb-false (answerAt d best .accepted .ballot) (answerAt d n .accepted .ballot) eg in
+          let k = h .below in
+          somebody (record { below = omega arith; holds = h .holds; most = last-or (AtMost best) n (h .most) (λ p. q); lowest = h .lowest })
+
+  high-from : (n : ℕ) → n ≤ 12 → High n (iter (better d) 12 n)
+  unfolding iter
+  high-from zero l = nobody refl (λ s l. absurd (omega arith))
+  high-from (suc n) l = better-high n (iter (better d) 12 n) (omega arith) (high-from n (omega arith))
+
+  pub high-is : High 12 (highest d)
+  unfolding highest
+  high-is = high-from 12 (omega arith)
+
+  -- ---- what phase 0 takes
+
+  -- where one of the twelve holds an accepted set, the highest is there
+  pub highest-best : (s : ℕ) → s < 12 → hasAccepted (answerAt d s) ≡ true → Best 12 (highest d)
+  highest-best s l e = go high-is
+    where
+      go : High 12 (highest d) → Best 12 (highest d)
+      go (nobody z f) = absurd (true-and-false e (f s l))
+      go (somebody h) = h
+
+  pub highest-taken : d .phase ≡ 0 → (s : ℕ) → s < 12 → hasAccepted (answerAt d s) ≡ true → decide d ≡ toPhase 2 d (answerAt d (highest d) .accepted .set)
+  unfolding decide decide0
+  highest-taken p s l e =
+      cond-true (eqb (d .phase) 0) _ _ (eq-eqb (d .phase) 0 p)
+      ∙ cond-true (ltb (highest d) 12) _ _ (lt-ltb (highest d) 12 (highest-best s l e .below))
