@@ -13,9 +13,6 @@ use Rattle.drive.specs.Held.{answerAt, toPhase}
 use Rattle.drive.specs.Decide.{hasAccepted, better, highest, decide0, decide}
 
 module _ (d : Drive) where
-  abbrev pub ballotOf : ℕ → ℕ
-  ballotOf s = answerAt d s .accepted .ballot
-
   -- of the servers below n that hold an accepted set, best is at a ballot that is at least every other's, and above those of the servers before it
   pub record Best (n best : ℕ) : Type 0 where
     pub below : best < n
@@ -63,6 +60,14 @@ module _ (d : Drive) where
   pub high-is : High 12 (highest d)
   unfolding highest
   high-is = high-from 12 (omega arith)
+
+  -- the server that holds the highest accepted ballot holds one
+  pub highest-accepted : highest d < 12 → hasAccepted (answerAt d (highest d)) ≡ true
+  highest-accepted l = go high-is
+    where
+      go : High 12 (highest d) → hasAccepted (answerAt d (highest d)) ≡ true
+      go (nobody z f) = absurd (omega arith)
+      go (somebody h) = h .holds
 
   -- ---- what phase 0 takes
 

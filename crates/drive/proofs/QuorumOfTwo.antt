@@ -47,3 +47,8 @@ pub quorum-of-two : (d : Drive) → twoInEach d ≡ true → (k : ℕ) → has (
 unfolding twoInEach twoIn
 quorum-of-two d e k t =
     two-true (countedIn d k) (then-yes (has (touched d) k) (leb 2 (countBelow (countedIn d k) 3)) (all-at (twoIn d) 4 k e (shard-below (d .pieces) k t)) t)
+
+-- all three are more than two
+pub three-count : (f : ℕ → Bool) → f 0 ≡ true → f 1 ≡ true → f 2 ≡ true → leb 2 (countBelow f 3) ≡ true
+unfolding countBelow
+three-count f a b c = rw (a, b, c)
