@@ -1,17 +1,17 @@
 -- Document 01, "The drive", phase 1: the fast path, from phase 1 straight to phase 3, is for the first ballot alone, with the answers of all servers of T's shards, and with equal words within each shard. Assumes nothing.
-use mathlib.Core.Path.{_≡_, refl, sym, ap, _∙_}
+use mathlib.Core.Path.{_≡_, refl}
 use mathlib.Core.Bool.{Bool, true, false, cond, _&&_}
 use Prim.Native.Nat.{ℕ, _<_}
 use native.Mathlib.Omega.{arith}
-use borrow.Author.Tests.{eqb-true, eq-eqb, ne-eqb}
+use borrow.Author.Tests.{eqb-true}
 use lib.Dec.{eqb}
 use Rattle.masks.specs.Folds.{allBelow}
-use Rattle.masks.proofs.Bools.{cond-true, cond-false, and-yes, and-yes-l, and-yes-r}
+use Rattle.masks.proofs.Bools.{and-yes, and-yes-l, and-yes-r}
 use Rattle.masks.proofs.FoldLaws.{all-at}
 use Rattle.rules.specs.Cluster.{serverOf}
 use Rattle.drive.specs.declared.Drive.{Drive}
-use Rattle.drive.specs.Held.{answerAt, counted, touched, addressed, toPhase}
-use Rattle.drive.specs.Decide.{answered, allAnswered, hasWord, wordThere, agree, equalIn, equalWords, unions, decide1, decide}
+use Rattle.drive.specs.Held.{answerAt, counted, touched, addressed}
+use Rattle.drive.specs.Decide.{answered, allAnswered, hasWord, wordThere, agree, equalIn, equalWords, decide1, decide}
 use Rattle.drive.proofs.Implied.{then-yes}
 
 module _ (d : Drive) where
@@ -53,27 +53,24 @@ module _ (d : Drive) where
     pub all : allAnswered d ≡ true
     pub equal : equalWords d ≡ true
 
-  -- which tests phase 1 makes
-  tests : (first all equal : Bool) → decide1 d first all equal .phase ≡ 3 → (first && all && equal) ≡ true
-  unfolding decide1
-  tests first all equal e = go (first && all && equal) e
-    where
-      go : (b : Bool) → (cond b (toPhase 3 d (unions d)) (toPhase 2 d (unions d))) .phase ≡ 3 → b ≡ true
-      go true e = refl
-      go false e = absurd (omega arith)
+  -- the three tests of phase 1, and that it makes them
+  record Tests (first all equal : Bool) : Type 0 where
+    first-yes : first ≡ true
+    all-yes : all ≡ true
+    equal-yes : equal ≡ true
 
-  in-phase1 : d .phase ≡ 1 → decide d ≡ decide1 d (eqb (d .ballot) 0) (allAnswered d) (equalWords d)
-  unfolding decide
-  in-phase1 p =
-      cond-false (eqb (d .phase) 0) _ _ (ne-eqb (d .phase) 0 (λ z. omega arith))
-      ∙ cond-true (eqb (d .phase) 1) _ _ (eq-eqb (d .phase) 1 p)
+  tests : (first all equal : Bool) → decide1 d first all equal .phase ≡ 3 → Tests first all equal
+  unfolding decide1
+  tests true true true e = record { first-yes = refl; all-yes = refl; equal-yes = refl }
+  tests true true false e = absurd (omega arith)
+  tests true false equal e = absurd (omega arith)
+  tests false all equal e = absurd (omega arith)
+
+  in-phase1 : (n : ℕ) (x y z : Drive) → n ≡ 1 → (cond (eqb n 0) x (cond (eqb n 1) y z)) .phase ≡ 3 → y .phase ≡ 3
+  in-phase1 n x y z p e = rw p at e
 
   pub fast-path : d .phase ≡ 1 → decide d .phase ≡ 3 → Fast
+  unfolding decide
   fast-path p e =
-      let k = tests (eqb (d .ballot) 0) (allAnswered d) (equalWords d) (sym (ap (λ (x : Drive). x .phase) (in-phase1 p)) ∙ e) in
-      let firstAll = and-yes-l (eqb (d .ballot) 0 && allAnswered d) (equalWords d) k in
-      record {
-        first = eqb-true (d .ballot) 0 (and-yes-l (eqb (d .ballot) 0) (allAnswered d) firstAll);
-        all = and-yes-r (eqb (d .ballot) 0) (allAnswered d) firstAll;
-        equal = and-yes-r (eqb (d .ballot) 0 && allAnswered d) (equalWords d) k;
-      }
+      let k = tests _ _ _ (in-phase1 (d .phase) _ _ _ p e) in
+      record { first = eqb-true (d .ballot) 0 (k .first-yes); all = k .all-yes; equal = k .equal-yes }

@@ -1,13 +1,14 @@
 -- Document 01, "The drive", phase 0: if a counted answer holds an accepted set, the set taken to phase 2 is that of the highest accepted ballot, and of answers at one ballot that of the lowest server. Assumes nothing.
 use mathlib.Core.Path.{_≡_, refl, sym, _∙_, ap, subst}
-use mathlib.Core.Bool.{Bool, true, false, not, cond}
+use mathlib.Core.Logic.{_≢_}
+use mathlib.Core.Bool.{Bool, true, false, cond}
 use Prim.Native.Nat.{ℕ, zero, suc, _≤_, _<_}
 use native.Mathlib.Omega.{arith}
 use native.Mathlib.Decide.{ℕ-discrete}
 use borrow.Author.Tests.{eqb-true, eqb-false, eq-eqb, ltb-true, ltb-false, lt-ltb}
 use lib.Dec.{eqb, ltb}
 use Rattle.masks.specs.Folds.{iter}
-use Rattle.masks.proofs.Bools.{true-and-false, cond-true}
+use Rattle.masks.proofs.Bools.{not-yes, not-no, true-and-false, cond-true}
 use Rattle.drive.specs.declared.Drive.{Drive}
 use Rattle.drive.specs.Held.{answerAt, toPhase}
 use Rattle.drive.specs.Decide.{hasAccepted, better, highest, decide0, decide}
@@ -34,23 +35,41 @@ module _ (d : Drive) where
   abbrev AtMost : ℕ → ℕ → Type 0
   AtMost b s = hasAccepted (answerAt d s) ≡ true → answerAt d s .accepted .ballot ≤ answerAt d b .accepted .ballot
 
+  -- one of two servers, by a test
+  by-test : (n : ℕ) (b : Bool) (x y : ℕ) → (b ≡ true → High n x) → (b ≡ false → High n y) → High n (cond b x y)
+  by-test n true x y f g = f refl
+  by-test n false x y f g = g refl
+
+  module _ (n best : ℕ) (l : n < 12) where
+    -- the server n holds nothing
+    bare : hasAccepted (answerAt d n) ≡ false → High n best → High (suc n) best
+    bare e (nobody z f) = nobody z (last-or (λ s. hasAccepted (answerAt d s) ≡ false) n f e)
+    bare e (somebody h) = let k = h .below in somebody (record { below = omega arith; holds = h .holds; most = last-or (AtMost best) n (h .most) (λ q. absurd (true-and-false q e)); lowest = h .lowest })
+
+    module _ (e : hasAccepted (answerAt d n) ≡ true) where
+      -- it is the first that holds something
+      first : best ≡ 12 → High n best → High (suc n) n
+      first k (nobody z f) = somebody (record { below = omega arith; holds = e; most = last-or (AtMost n) n (λ s l q. absurd (true-and-false q (f s l))) (λ q. omega arith); lowest = λ s l q. absurd (true-and-false q (f s l)) })
+      first k (somebody h) = let q = h .below in absurd (omega arith)
+
+      -- it is at a higher ballot
+      higher : best ≢ 12 → answerAt d best .accepted .ballot < answerAt d n .accepted .ballot → High n best → High (suc n) n
+      higher k q (nobody z f) = absurd (k z)
+      higher k q (somebody h) = somebody (record { below = omega arith; holds = e; most = last-or (AtMost n) n (λ s l p. omega (arith, h .most s l p)) (λ p. omega arith); lowest = λ s l p. omega (arith, h .most s l p) })
+
+      -- it is not
+      no-higher : best ≢ 12 → answerAt d n .accepted .ballot ≤ answerAt d best .accepted .ballot → High n best → High (suc n) best
+      no-higher k q (nobody z f) = absurd (k z)
+      no-higher k q (somebody h) = let b = h .below in somebody (record { below = omega arith; holds = h .holds; most = last-or (AtMost best) n (h .most) (λ p. q); lowest = h .lowest })
+
   better-high : (n best : ℕ) → n < 12 → High n best → High (suc n) (better d n best)
   unfolding better
-  better-high n best l h = go (hasAccepted (answerAt d n)) refl (eqb best 12) refl (ltb (answerAt d best .accepted .ballot) (answerAt d n .accepted .ballot)) refl h
-    where
-      go : (a : Bool) → hasAccepted (answerAt d n) ≡ a → (b : Bool) → eqb best 12 ≡ b → (g : Bool) → ltb (answerAt d best .accepted .ballot) (answerAt d n .accepted .ballot) ≡ g → High n best → High (suc n) (cond (not a) best (cond b n (cond g n best)))
-      go false ea b eb g eg (nobody z f) = nobody z (last-or (λ s. hasAccepted (answerAt d s) ≡ false) n f ea)
-      go false ea b eb g eg (somebody h) = let k = h .below in somebody (record { below = omega arith; holds = h .holds; most = last-or (AtMost best) n (h .most) (λ q. absurd (true-and-false q ea)); lowest = h .lowest })
-      go true ea true eb g eg (nobody z f) = somebody (record { below = omega arith; holds = ea; most = last-or (AtMost n) n (λ s l q. absurd (true-and-false q (f s l))) (λ q. omega arith); lowest = λ s l q. absurd (true-and-false q (f s l)) })
-      go true ea true eb g eg (somebody h) = let k = h .below in absurd (omega (arith, eqb-true best 12 eb))
-      go true ea false eb g eg (nobody z f) = absurd (eqb-false best 12 eb z)
-      go true ea false eb true eg (somebody h) =
-          let q = ltb-true (answerAt d best .accepted .ballot) (answerAt d n .accepted .ballot) eg in
-          somebody (record { below = omega arith; holds = ea; most = last-or (AtMost n) n (λ s l p. omega (arith, h .most s l p)) (λ p. omega arith); lowest = λ s l p. omega (arith, h .most s l p) })
-      go true ea false eb false eg (somebody h) =
-          let q = ltb-false (answerAt d best .accepted .ballot) (answerAt d n .accepted .ballot) eg in
-          let k = h .below in
-          somebody (record { below = omega arith; holds = h .holds; most = last-or (AtMost best) n (h .most) (λ p. q); lowest = h .lowest })
+  better-high n best l h =
+      by-test (suc n) _ _ _ (λ a. bare n best l (not-yes _ a) h)
+      (λ a. by-test (suc n) _ _ _ (λ b. first n best l (not-no _ a) (eqb-true best 12 b) h)
+      (λ b. by-test (suc n) _ _ _
+      (λ g. higher n best l (not-no _ a) (eqb-false best 12 b) (ltb-true (answerAt d best .accepted .ballot) (answerAt d n .accepted .ballot) g) h)
+      (λ g. no-higher n best l (not-no _ a) (eqb-false best 12 b) (ltb-false (answerAt d best .accepted .ballot) (answerAt d n .accepted .ballot) g) h)))
 
   high-from : (n : ℕ) → n ≤ 12 → High n (iter (better d) 12 n)
   unfolding iter

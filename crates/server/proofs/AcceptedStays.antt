@@ -11,13 +11,13 @@ use Rattle.server.specs.declared.Record.{Record}
 use Rattle.server.specs.declared.Server.{Server}
 use Rattle.server.specs.declared.Changed.{Changed}
 use Rattle.server.specs.Held.{recordAt}
-use Rattle.server.specs.Changes.{promised, arrive, preAccepted, change}
+use Rattle.server.specs.Changes.{promised, withArrival, arrive, preAccepted, change}
 use Rattle.server.specs.Serve.{serve, arrivalFor}
 use Rattle.server.proofs.PartStays.{either-part, asked-part, serve-part}
 
 arrival-leaves-accepted : (w : ℕ) (v : Record) → arrive w v .accepted ≡ v .accepted
 unfolding arrive
-arrival-leaves-accepted w v = either-part (λ (u : Record). u .accepted) (v .accepted) (there (v .arrival .some)) _ _ refl refl
+arrival-leaves-accepted w v = either-part (λ (u : Record). u .accepted) (v .accepted) (there (v .arrival .some)) _ (withArrival w v) refl refl
 
 module _ (id w : ℕ) (v : Record) (m : Message) where
 

@@ -3,7 +3,6 @@ use mathlib.Core.Path.{_≡_, refl, sym, ap, _∙_}
 use mathlib.Core.Bool.{Bool, true, cond}
 use Prim.Native.Nat.{ℕ}
 use lib.Dec.{eqb}
-use Rattle.masks.proofs.Bools.{cond-true}
 use Rattle.rules.specs.Flags.{there}
 use Rattle.wire.specs.declared.Message.{Message}
 use Rattle.wire.specs.Codes.{PreAccept, Accept, Prepare, Inquire, commits}
@@ -15,12 +14,12 @@ use Rattle.server.specs.Changes.{promised, withArrival, withCommitted, a
 use Rattle.server.specs.Serve.{serve, arrivalFor}
 use Rattle.server.specs.Run.{run, runAll}
 use Rattle.server.proofs.RunLeaves.{run-leaves, runAll-leaves}
-use Rattle.server.proofs.PartStays.{either-part, asked-part, serve-part}
+use Rattle.server.proofs.PartStays.{either-part, first-part, asked-part, serve-part}
 
 -- a second arrival is none
 arrive-again : (w : ℕ) (v : Record) → there (v .arrival .some) ≡ true → arrive w v .arrival ≡ v .arrival
 unfolding arrive
-arrive-again w v e = ap (λ (u : Record). u .arrival) (cond-true (there (v .arrival .some)) v (withArrival w v) e)
+arrive-again w v e = first-part (λ (u : Record). u .arrival) (v .arrival) (there (v .arrival .some)) _ (withArrival w v) e refl
 
 module _ (id w : ℕ) (v : Record) (m : Message) (there-is : there (v .arrival .some) ≡ true) where
   abbrev Leaves : Changed → Type 0

@@ -1,6 +1,6 @@
 -- A step stores one record, that of its number: a part of a record that the message's change leaves there stays in every record. Assumes nothing.
 use mathlib.Core.Path.{_≡_, refl, sym, _∙_, ap}
-use mathlib.Core.Bool.{Bool, true, false, cond}
+use mathlib.Core.Bool.{Bool, true, false, cond, false≢true}
 use Prim.Native.Nat.{ℕ}
 use lib.Dec.{eqb, ltb}
 use Rattle.rules.specs.Flags.{there}
@@ -19,6 +19,11 @@ use Rattle.server.proofs.RunLeaves.{set-either}
 pub either-part : {A C : Type 0} (part : C → A) (a : A) (b : Bool) (x y : C) → part x ≡ a → part y ≡ a → part (cond b x y) ≡ a
 either-part part a true x y p q = p
 either-part part a false x y p q = q
+
+-- the first of two, where the test holds
+pub first-part : {A C : Type 0} (part : C → A) (a : A) (b : Bool) (x y : C) → b ≡ true → part x ≡ a → part (cond b x y) ≡ a
+first-part part a true x y e p = p
+first-part part a false x y e p = absurd (false≢true e)
 
 module _ {A : Type 0} (part : Record → A) where
   -- Done and Behind change nothing
