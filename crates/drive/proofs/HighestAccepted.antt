@@ -35,11 +35,6 @@ module _ (d : Drive) where
   abbrev AtMost : ℕ → ℕ → Type 0
   AtMost b s = hasAccepted (answerAt d s) ≡ true → answerAt d s .accepted .ballot ≤ answerAt d b .accepted .ballot
 
-  -- one of two servers, by a test
-  by-test : (n : ℕ) (b : Bool) (x y : ℕ) → (b ≡ true → High n x) → (b ≡ false → High n y) → High n (cond b x y)
-  by-test n true x y f g = f refl
-  by-test n false x y f g = g refl
-
   module _ (n best : ℕ) (l : n < 12) where
     -- the server n holds nothing
     bare : hasAccepted (answerAt d n) ≡ false → High n best → High (suc n) best
@@ -62,14 +57,25 @@ module _ (d : Drive) where
       no-higher k q (nobody z f) = absurd (k z)
       no-higher k q (somebody h) = let b = h .below in somebody (record { below = omega arith; holds = h .holds; most = last-or (AtMost best) n (h .most) (λ p. q); lowest = h .lowest })
 
+    -- what three tests choose that say which it is
+    chosen : (r : ℕ) (a b c : Bool) → r ≡ cond a best (cond b n (cond c n best)) →
+        (a ≡ true → hasAccepted (answerAt d n) ≡ false) → (a ≡ false → hasAccepted (answerAt d n) ≡ true) →
+        (b ≡ true → best ≡ 12) → (b ≡ false → best ≢ 12) →
+        (c ≡ true → answerAt d best .accepted .ballot < answerAt d n .accepted .ballot) → (c ≡ false → answerAt d n .accepted .ballot ≤ answerAt d best .accepted .ballot) →
+        High n best → High (suc n) r
+    chosen r true b c q a1 a0 b1 b0 c1 c0 h = subst (High (suc n)) (sym q) (bare (a1 refl) h)
+    chosen r false true c q a1 a0 b1 b0 c1 c0 h = subst (High (suc n)) (sym q) (first (a0 refl) (b1 refl) h)
+    chosen r false false true q a1 a0 b1 b0 c1 c0 h = subst (High (suc n)) (sym q) (higher (a0 refl) (b0 refl) (c1 refl) h)
+    chosen r false false false q a1 a0 b1 b0 c1 c0 h = subst (High (suc n)) (sym q) (no-higher (a0 refl) (b0 refl) (c0 refl) h)
+
   better-high : (n best : ℕ) → n < 12 → High n best → High (suc n) (better d n best)
   unfolding better
   better-high n best l h =
-      by-test (suc n) _ _ _ (λ a. bare n best l (not-yes _ a) h)
-      (λ a. by-test (suc n) _ _ _ (λ b. first n best l (not-no _ a) (eqb-true best 12 b) h)
-      (λ b. by-test (suc n) _ _ _
-      (λ g. higher n best l (not-no _ a) (eqb-false best 12 b) (ltb-true (answerAt d best .accepted .ballot) (answerAt d n .accepted .ballot) g) h)
-      (λ g. no-higher n best l (not-no _ a) (eqb-false best 12 b) (ltb-false (answerAt d best .accepted .ballot) (answerAt d n .accepted .ballot) g) h)))
+      chosen n best l (better d n best) _ _ _ refl
+      (not-yes (hasAccepted (answerAt d n))) (not-no (hasAccepted (answerAt d n)))
+      (eqb-true best 12) (eqb-false best 12)
+      (ltb-true (answerAt d best .accepted .ballot) (answerAt d n .accepted .ballot)) (ltb-false (answerAt d best .accepted .ballot) (answerAt d n .accepted .ballot))
+      h
 
   high-from : (n : ℕ) → n ≤ 12 → High n (iter (better d) 12 n)
   unfolding iter

@@ -20,7 +20,6 @@ unfolding arrive
 arrival-leaves-accepted w v = either-part (λ (u : Record). u .accepted) (v .accepted) (there (v .arrival .some)) _ (withArrival w v) refl refl
 
 module _ (id w : ℕ) (v : Record) (m : Message) where
-
   preAccept-leaves-accepted : m .code ≡ PreAccept → change id w v m .after .accepted ≡ v .accepted
   unfolding change preAccepted
   preAccept-leaves-accepted e =

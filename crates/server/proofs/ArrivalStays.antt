@@ -19,7 +19,7 @@ use Rattle.server.proofs.PartStays.{either-part, first-part, asked-part
 -- a second arrival is none
 arrive-again : (w : ℕ) (v : Record) → there (v .arrival .some) ≡ true → arrive w v .arrival ≡ v .arrival
 unfolding arrive
-arrive-again w v e = first-part (λ (u : Record). u .arrival) (v .arrival) (there (v .arrival .some)) _ (withArrival w v) e refl
+arrive-again w v e = first-part (λ (u : Record). u .arrival) (v .arrival) (arrive w v) _ _ _ refl e refl
 
 module _ (id w : ℕ) (v : Record) (m : Message) (there-is : there (v .arrival .some) ≡ true) where
   abbrev Leaves : Changed → Type 0

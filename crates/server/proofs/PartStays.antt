@@ -21,9 +21,9 @@ either-part part a true x y p q = p
 either-part part a false x y p q = q
 
 -- the first of two, where the test holds
-pub first-part : {A C : Type 0} (part : C → A) (a : A) (b : Bool) (x y : C) → b ≡ true → part x ≡ a → part (cond b x y) ≡ a
-first-part part a true x y e p = p
-first-part part a false x y e p = absurd (false≢true e)
+pub first-part : {A C : Type 0} (part : C → A) (a : A) (r : C) (b : Bool) (x y : C) → r ≡ cond b x y → b ≡ true → part x ≡ a → part r ≡ a
+first-part part a r true x y q e p = ap part q ∙ p
+first-part part a r false x y q e p = absurd (false≢true e)
 
 module _ {A : Type 0} (part : Record → A) where
   -- Done and Behind change nothing
