@@ -15,6 +15,8 @@ class Function:
     answer: str
     ensures: list
     exported: bool
+    uses: list
+    imports: dict
 
     @property
     def name(self):
@@ -100,8 +102,10 @@ def public_functions(root='.'):
         crate = lib.parent.parent.name
         text = without_comments(lib.read_text(encoding='utf-8'))
         for prefix, body in modules(lib.parent, text, []):
+            uses = re.findall(r'ghost use ([^;]+);', body)
+            imports = {name: owner for owner, name in re.findall(r'(?m)^use (\w+)::(?:\w+::)*(\w+);', body)}
             for found_one in functions_of(body, prefix):
-                found.append(Function(crate, *found_one))
+                found.append(Function(crate, *found_one, uses, imports))
     return found
 
 

@@ -9,7 +9,8 @@ use lib.ListN.{length}
 use borrow.Author.Tests.{eq-eqb, ne-eqb}
 use Rattle.masks.proofs.Bools.{or-no-l, or-no-r}
 use Rattle.xdr.specs.Read.{Got, judged}
-use Rattle.xdr.specs.Form.{Reads, u32, u64, when, reads-then, reads-by, reads-none}
+use Rattle.xdr.specs.Form.{u32, u64, when}
+use Rattle.xdr.specs.Reading.{Reads, reads-then, reads-by, reads-none}
 use Rattle.xdr.specs.declared.Cursor.{Cursor}
 use Rattle.rules.specs.declared.Pieces.{Pieces}
 use Rattle.rules.specs.declared.Set.{Set}

@@ -1,4 +1,4 @@
--- A message's fields after its code, in two sections: the front (T, server, ballot, promise), which a message has many of, and the rest.
+-- A message's fields after its code, in two sections: the front, which is T, server, ballot and promise, and the rest. Many messages have no rest.
 use mathlib.Core.Bool.{Bool, _||_}
 use Prim.Native.Nat.{ℕ}
 use Rattle.xdr.specs.Form.{Form, u32, u64, _then_, when}

@@ -2,24 +2,19 @@
 ghost use mathlib.Core.Path.{_≡_};
 ghost use lib.Dec.{leb};
 ghost use Rattle.xdr.specs.Read.{judged};
-ghost use Rattle.xdr.specs.Form.{Reads};
+ghost use Rattle.xdr.specs.Reading.{Reads};
 ghost use Rattle.wire.specs.Messages.{blank};
 ghost use Rattle.wire.specs.Bytes.{code, ended, decodedAs};
 ghost use Rattle.codec.specs.Sections.{front, rest, noRest, joined};
+use messages::blank;
 use messages::codes::shape_of;
+use messages::plain;
 use parts::get_arrays::get_pieces_if;
 use parts::get_arrays::get_values_if;
 use parts::get_parts::get_prepared_if;
 use parts::get_parts::get_set_if;
 use parts::get_parts::get_u32_if;
 use parts::get_parts::get_u64_if;
-use rules::MaybeVote;
-use rules::MaybeWord;
-use rules::Piece;
-use rules::Pieces;
-use rules::Set;
-use rules::Value;
-use rules::Values;
 use wire::Decoded;
 use wire::Message;
 use wire::Shape;
@@ -82,43 +77,7 @@ fn fault_of(n: usize, c: Cursor) -> u32
 fn refused(refusal: u32) -> Decoded
     ensures { λ r. ⌜ r ≡ record { refusal = refusal; message = blank } ⌝ }
 {
-    let list = [Piece {
-        shard: 0,
-        key: 0,
-        kind: 0,
-        operand: 0,
-    }; 8];
-    let pieces = Pieces { list, count: 0 };
-    let set = Set {
-        w0: 0,
-        w1: 0,
-        w2: 0,
-        w3: 0,
-    };
-    let arrival = MaybeWord { some: 0, word: 0 };
-    let accepted = MaybeVote {
-        some: 0,
-        ballot: 0,
-        set,
-    };
-    let results = [Value { value: 0, kept: 0 }; 8];
-    let values = Values {
-        list: results,
-        count: 0,
-    };
-    let message = Message {
-        code: 0,
-        t: 0,
-        server: 0,
-        ballot: 0,
-        promise: 0,
-        pieces,
-        set,
-        word: 0,
-        arrival,
-        accepted,
-        values,
-    };
+    let message = blank();
     Decoded { refusal, message }
 }
 
@@ -131,43 +90,7 @@ pub fn short_message(n: usize, k: u32, f: GotFront) -> Decoded
     if fault != 0 {
         return refused(fault);
     }
-    let list = [Piece {
-        shard: 0,
-        key: 0,
-        kind: 0,
-        operand: 0,
-    }; 8];
-    let pieces = Pieces { list, count: 0 };
-    let set = Set {
-        w0: 0,
-        w1: 0,
-        w2: 0,
-        w3: 0,
-    };
-    let arrival = MaybeWord { some: 0, word: 0 };
-    let accepted = MaybeVote {
-        some: 0,
-        ballot: 0,
-        set,
-    };
-    let results = [Value { value: 0, kept: 0 }; 8];
-    let values = Values {
-        list: results,
-        count: 0,
-    };
-    let message = Message {
-        code: k,
-        t: f.t,
-        server: f.server,
-        ballot: f.ballot,
-        promise: f.promise,
-        pieces,
-        set,
-        word: 0,
-        arrival,
-        accepted,
-        values,
-    };
+    let message = plain(k, f.t, f.server, f.ballot, f.promise);
     Decoded {
         refusal: 0,
         message,

@@ -25,12 +25,14 @@ use Rattle.wire.specs.Codes.{Done}
 use Rattle.drive.specs.declared.Answer.{Answer}
 use Rattle.drive.specs.declared.Drive.{Drive}
 use Rattle.drive.specs.Held.{noAnswer, noAnswers, answerAt, counted, touched, addressed, toPhase, toPhase1}
-use Rattle.drive.specs.Decide.{answered, allAnswered, twoIn, twoInEach, decided, hasWord, hasAccepted, wordIn, unionIn, unions, better, highest, decide}
+use Rattle.drive.specs.Decide.{answered, allAnswered, twoIn, twoInEach, decided, hasWord, hasAccepted, wordIn, unionIn, unions, highest, decide}
 use Rattle.drive.specs.Form.{numbersFormed, ballotsFormed, wordFormed, acceptedFormed, answerFormed, tooFew, setFormed}
 use Rattle.drive.specs.Hear.{says}
 use Rattle.drive.proofs.Passed.{accepted, takes}
 use Rattle.drive.proofs.FormParts.{Formed}
-use Rattle.drive.proofs.Decided.{Decision, highest2, equal2, again1, quick3, union2, voted3, decision, then-yes, yes-then}
+use Rattle.drive.proofs.Decided.{Decision, highest2, equal2, again1, quick3, union2, voted3, decision}
+use Rattle.drive.proofs.Implied.{then-yes, yes-then}
+use Rattle.drive.proofs.HighestAccepted.{highest-accepted}
 
 -- ---- with no answers counted
 
@@ -119,21 +121,6 @@ answer-parts d s e h =
       word = λ l z. not-yes _ (then-yes (ltb (d .phase) 2 && hasWord (answerAt d s)) (not (has (answerAt d s .arrival .word) (d .t))) (and-yes-r (A && N) W q3) (and-yes _ _ (lt-ltb (d .phase) 2 l) z));
       set = λ l z. not-yes _ (and-yes-r (not (badBallot (answerAt d s .accepted .ballot))) (not (badSet (d .t) (touched d) (answerAt d s .accepted .set))) (then-yes (eqb (d .phase) 0 && hasAccepted (answerAt d s)) (not (badBallot (answerAt d s .accepted .ballot)) && not (badSet (d .t) (touched d) (answerAt d s .accepted .set))) (and-yes-r (A && N && W) X q) (and-yes _ _ (eq-eqb (d .phase) 0 l) z)));
     }
-
--- the server that holds the highest accepted ballot holds one
-better-accepted : (d : Drive) (s best : ℕ) → (best < 12 → hasAccepted (answerAt d best) ≡ true) → better d s best < 12 → hasAccepted (answerAt d (better d s best)) ≡ true
-unfolding better
-better-accepted d s best f = go (hasAccepted (answerAt d s)) refl (eqb best 12) (ltb (answerAt d best .accepted .ballot) (answerAt d s .accepted .ballot))
-  where
-    go : (a : Bool) → hasAccepted (answerAt d s) ≡ a → (b g : Bool) → cond (not a) best (cond b s (cond g s best)) < 12 → hasAccepted (answerAt d (cond (not a) best (cond b s (cond g s best)))) ≡ true
-    go false e b g l = f l
-    go true e true g l = e
-    go true e false true l = e
-    go true e false false l = f l
-
-highest-accepted : (d : Drive) → highest d < 12 → hasAccepted (answerAt d (highest d)) ≡ true
-unfolding highest
-highest-accepted d = iter-keeps (λ best. best < 12 → hasAccepted (answerAt d best) ≡ true) (better d) 12 12 (λ l. absurd (omega arith)) (λ s best l h. better-accepted d s best h)
 
 -- the union of nothing
 nothing : unionOf (λ r. 0) 3 ≡ 0

@@ -8,12 +8,14 @@ use borrow.Author.Tests.{eqb-true, eqb-false, ltb-true}
 use lib.Dec.{eqb, ltb, leb, lit<}
 use Rattle.masks.specs.Bits.{has}
 use Rattle.masks.specs.Folds.{countBelow}
-use Rattle.masks.proofs.FoldLaws.{all-at, all-of}
-use Rattle.rules.specs.Flags.{implies}
+use Rattle.masks.proofs.FoldLaws.{all-of}
 use Rattle.rules.specs.Cluster.{serverOf}
 use Rattle.drive.specs.declared.Drive.{Drive}
-use Rattle.drive.specs.Held.{counted, touched, addressed, toPhase, toPhase1, answerAt}
-use Rattle.drive.specs.Decide.{answered, allAnswered, countedIn, twoIn, twoInEach, decided, equalWords, highest, unions, decide0, decide1, decide2, decide}
+use Rattle.drive.specs.Held.{counted, touched, toPhase, toPhase1, answerAt}
+use Rattle.drive.specs.Decide.{allAnswered, countedIn, twoIn, twoInEach, decided, equalWords, highest, unions, decide0, decide1, decide2, decide}
+use Rattle.drive.proofs.Implied.{yes-then}
+use Rattle.drive.proofs.QuorumOfTwo.{three-count}
+use Rattle.drive.proofs.FastPath.{everyone}
 
 -- which decisions there are
 pub data Decision (d : Drive) : Drive → Type 0 where
@@ -56,23 +58,12 @@ decision-ballot (voted3 p q) = record { number = refl; ballot = refl }
 
 -- ---- all servers of a shard are two of it
 
-pub then-yes : (a b : Bool) → implies a b ≡ true → a ≡ true → b ≡ true
-then-yes a b e h = cc
-
-pub yes-then : (a b : Bool) → (a ≡ true → b ≡ true) → implies a b ≡ true
-yes-then true b f = f refl
-yes-then false b f = refl
-
-three-count : (f : ℕ → Bool) → f 0 ≡ true → f 1 ≡ true → f 2 ≡ true → leb 2 (countBelow f 3) ≡ true
-unfolding countBelow
-three-count f a b c = rw (a, b, c)
-
 pub all-two : (d : Drive) → allAnswered d ≡ true → twoInEach d ≡ true
-unfolding allAnswered answered twoInEach twoIn
+unfolding twoInEach twoIn
 all-two d e = all-of (twoIn d) 4 (λ k l. yes-then (has (touched d) k) (leb 2 (countBelow (countedIn d k) 3)) (λ t. three-count (countedIn d k) (at k 0 l (lit< tt) t) (at k 1 l (lit< tt) t) (at k 2 l (lit< tt) t)))
   where
     at : (k r : ℕ) → k < 4 → r < 3 → has (touched d) k ≡ true → counted d (serverOf k r) ≡ true
-    at k r l q t = then-yes (addressed (touched d) (serverOf k r)) (counted d (serverOf k r)) (all-at (answered d) 12 (serverOf k r) e (omega arith)) (subst (λ n. has (touched d) n ≡ true) (omega arith) t)
+    at k r l q t = everyone d e (serverOf k r) (omega arith) (subst (λ n. has (touched d) n ≡ true) (omega arith) t)
 
 pub decided-two : (d : Drive) → decided d ≡ true → twoInEach d ≡ true
 unfolding decided

@@ -35,7 +35,7 @@ use Rattle.drive.specs.Hear.{says, answerOf, settle, count, hear, moved,
 use Rattle.drive.specs.Host.{unless, startRefusal, start, recoverRefusal, recover, above, againRefusal, again, moveOnRefusal, moveOn}
 use Rattle.drive.proofs.Passed.{not-first, one-no, Passed, Counts, Kind, prepared, preAccepted, accepted, Hears, isDone, isBehind, isOK, Replied, refuses, takes, replied}
 use Rattle.drive.proofs.FormParts.{Formed, formed-parts, parts-formed, phase-below}
-use Rattle.drive.proofs.Decided.{yes-then}
+use Rattle.drive.proofs.Implied.{yes-then}
 use Rattle.drive.proofs.DecideKeepsForm.{Loose, loosen, no-answers, few, decide-formed, done-formed}
 
 -- ---- a drive that begins

@@ -1,3 +1,7 @@
+pub mod Implied
+pub mod QuorumOfTwo
+pub mod FastPath
+pub mod HighestAccepted
 pub mod Passed
 pub mod FormParts
 pub mod Decided

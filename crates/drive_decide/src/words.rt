@@ -85,7 +85,7 @@ fn union_in(d: Drive, k: u32) -> u64
     while r < REPLICAS {
         let s = server_of(k, r) as usize;
         let a = d.answers[s];
-        w = masks::union(w, word_of(a));
+        w = w | word_of(a);
         r += 1;
     }
     w

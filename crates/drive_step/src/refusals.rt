@@ -47,11 +47,13 @@ fn misplaced(t: u32, ballot: u32, phase: u32, shards: u64, answered: u64, m: Mes
     ensures { λ r. ⌜ r ≡ misplacedBy t ballot phase shards answered m ⌝ }
 {
     let shape = shape_of(m.code);
+    let balloted = shape.ballot;
+    let served = shape.server;
     let ok = (m.code == PRE_ACCEPT_OK) | (m.code == ACCEPT_OK) | (m.code == PREPARE_OK);
     other_phase(phase, m)
         | !(m.t == t)
-        | (shape.ballot & !(m.ballot == ballot))
-        | (shape.server & !addressed(shards, m.server))
+        | (balloted & !(m.ballot == ballot))
+        | (served & !addressed(shards, m.server))
         | (ok & masks::has(answered, m.server as usize))
 }
 

@@ -1,5 +1,6 @@
 pub mod Codec
 pub mod Counters
+pub mod Door
 pub mod DriveDecide
 pub mod DriveForm
 pub mod DriveHost
@@ -7,11 +8,14 @@ pub mod DriveLent
 pub mod DriveStep
 pub mod Faults
 pub mod Graph
+pub mod Lent
 pub mod Masks
+pub mod Messages
 pub mod Parts
 pub mod Rules
 pub mod ServerChange
 pub mod ServerForm
 pub mod ServerRun
 pub mod ServerStep
+pub mod Station
 pub mod Xdr

@@ -5,6 +5,7 @@ use Rattle.server_run.proofs.fresh.Reads as server-run·fresh-contract
 use Rattle.server_run.proofs.run.Reads as server-run·run-contract
 use Rattle.server_run.proofs.run_all.Reads as server-run·run-all-contract
 use Rattle.server_run.proofs.wanted.Reads as server-run·wanted-contract
+use Rattle.server_run.proofs.first.fresh_server.Reads as server-run·first·fresh-server-contract
 
 pub server-run·fresh : Answers server-run·fresh-contract.Post
 server-run·fresh κ a x y e e′ p q = p ∙ sym q
@@ -17,3 +18,6 @@ server-run·run-all κ a x y e e′ p q = p ∙ sym q
 
 pub server-run·wanted : Answers server-run·wanted-contract.Post
 server-run·wanted κ a x y e e′ p q = p ∙ sym q
+
+pub server-run·first·fresh-server : Answers server-run·first·fresh-server-contract.Post
+server-run·first·fresh-server κ a x y e e′ p q = p ∙ sym q

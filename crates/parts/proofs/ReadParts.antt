@@ -5,7 +5,8 @@ use mathlib.Core.List.{List}
 use Prim.Native.Nat.{ℕ}
 use lib.IntN.{ℤ}
 use Rattle.xdr.specs.Array.{Filled, filled-rows}
-use Rattle.xdr.specs.Form.{Reads, u32, u64, int, flag as bool, count, _then_, when, reads-then, reads-by}
+use Rattle.xdr.specs.Form.{u32, u64, int, flag as bool, count, _then_, when}
+use Rattle.xdr.specs.Reading.{Reads, reads-then, reads-by}
 use Rattle.xdr.specs.declared.Cursor.{Cursor}
 use Rattle.rules.specs.declared.Piece.{Piece}
 use Rattle.rules.specs.declared.Set.{Set}

@@ -21,12 +21,15 @@ use Rattle.drive.specs.declared.Drive.{Drive}
 use Rattle.drive.specs.Held.{noAnswer, noAnswers, answerAt, counted, touched, toPhase, toPhase1}
 use Rattle.drive.specs.Decide.{allAnswered, twoInEach, hasWord, hasAccepted, equalWords, unions, highest, decide0, decide1, decide2, decide}
 use Rattle.drive.proofs.DecideKeepsForm.{nobody as nobody-counted, some-touched}
+use Rattle.drive.proofs.QuorumOfTwo.{shard-below}
+use Rattle.drive.proofs.FastPath.{equal-word}
+use Rattle.drive.proofs.HighestAccepted.{Best, High, nobody, somebody, high-is}
 use Rattle.safety.specs.Cluster.{World, Cluster}
 use Rattle.safety.proofs.Quorum.{Maj, All3, InShard, i0, i1, i2, maj-in, maj-map, maj-one}
 use Rattle.safety.proofs.Slice.{Slice, Holds, Votes, Covers, Unanimous, Prepared, Free, free, highest as at-highest, Proposal, Chosen, quick, voted}
 use Rattle.safety.proofs.Agreement.{Lawful}
 use Rattle.safety.proofs.View.{sliceOf, touchedOf}
-use Rattle.safety.proofs.Answers.{two-maj, all-three, shard-below, High, nobody, somebody, high-is, in-unions, unions-fixed, unions-none, unions-fit, unions-each, equal-word, replica}
+use Rattle.safety.proofs.Answers.{two-maj, all-three, in-unions, unions-fixed, unions-none, unions-fit, unions-each, replica}
 use Rattle.safety.proofs.DriveIn.{Stage, DriveIn}
 
 module _ (w : World) (c : Cluster) (d : Drive) (di : DriveIn w c d) (lw : Lawful (touchedOf w (d .t)) (sliceOf c (d .t))) (kept : piecesKept (d .pieces) ≡ true) (two : twoInEach d ≡ true) where
@@ -188,7 +191,7 @@ module _ (w : World) (c : Cluster) (d : Drive) (di : DriveIn w c d) (lw : Lawful
     decide0-in = go (high-is d) (equalWords d) refl
       where
         go : High d 12 (highest d) → (g : Bool) → equalWords d ≡ g → DriveIn w c (cond (ltb (highest d) 12) (toPhase 2 d (answerAt d (highest d) .accepted .set)) (cond g (toPhase 2 d (unions d)) (toPhase1 d)))
-        go (somebody l e f) g z = subst (λ (b : Bool). DriveIn w c (cond b (toPhase 2 d (answerAt d (highest d) .accepted .set)) (cond g (toPhase 2 d (unions d)) (toPhase1 d)))) (sym (lt-ltb (highest d) 12 l)) (high-in (highest d) l e f)
+        go (somebody h) g z = subst (λ (b : Bool). DriveIn w c (cond b (toPhase 2 d (answerAt d (highest d) .accepted .set)) (cond g (toPhase 2 d (unions d)) (toPhase1 d)))) (sym (lt-ltb (highest d) 12 (h .below))) (high-in (highest d) (h .below) (h .holds) (h .most))
         go (nobody e f) g z = subst (λ n. DriveIn w c (cond (ltb n 12) (toPhase 2 d (answerAt d n .accepted .set)) (cond g (toPhase 2 d (unions d)) (toPhase1 d)))) (sym e) (pick g z)
           where
             pick : (g : Bool) → equalWords d ≡ g → DriveIn w c (cond g (toPhase 2 d (unions d)) (toPhase1 d))

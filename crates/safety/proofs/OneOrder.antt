@@ -29,7 +29,7 @@ use Rattle.server.proofs.RunKeepsForm.{deps-committed}
 use Rattle.safety.specs.Orders.{entries, Earlier, firsts}
 use Rattle.safety.specs.Cluster.{World, Cluster, firstServer, atFirst, ran, Reached, fresh, then}
 use Rattle.safety.specs.Statements.{Committed, logOf, OneOrder, OrderGrows}
-use Rattle.safety.proofs.Answers.{shard-below}
+use Rattle.drive.proofs.QuorumOfTwo.{shard-below}
 use Rattle.safety.proofs.View.{recordOf, put-same, put-all}
 use Rattle.safety.proofs.Kept.{Kept}
 use Rattle.safety.proofs.Histories.{agreement, reached-kept}

@@ -1,9 +1,12 @@
 pub mod RunGroups
 pub mod RunTurns
 pub mod Unchanged
+pub mod RunLeaves
+pub mod PartStays
+pub mod ArrivalStays
+pub mod AcceptedStays
 pub mod Passed
 pub mod Did
-pub mod RunLeaves
 pub mod FormParts
 pub mod ServeKeepsForm
 pub mod LogGrows

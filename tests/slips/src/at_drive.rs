@@ -29,6 +29,17 @@ pub fn move_on(slip: Slip, drive: &mut Drive) -> Result<(), Refusal> {
     }
 }
 
+pub fn again(slip: Slip, drive: &mut Drive) -> Result<(), Refusal> {
+    let mut forgetful = drive.clone();
+    if slip == Slip::AgainForgetsPromises {
+        drive::again(&mut drive.clone())?;
+        forgetful.seen = 0;
+    }
+    drive::again(&mut forgetful)?;
+    *drive = forgetful;
+    Ok(())
+}
+
 /// The drive with a reply counted and nothing decided.
 fn with_reply(drive: &Drive, message: &Message) -> Drive {
     let mut counted = drive.clone();
@@ -54,6 +65,10 @@ fn correct(slip: Slip, counted: &Drive, drive: &mut Drive, moved_on: bool) {
                 go(drive, COMMIT, Some(set));
             }
         }
+        (Slip::FastAtRecovery, PRE_ACCEPT) if decided && counted.all_answered() && equal_in_each(counted) => {
+            go(drive, COMMIT, drive.set)
+        }
+        (Slip::EqualWordsIgnored, PREPARE) if decided && !any_accepted(counted) => go(drive, PRE_ACCEPT, None),
         (Slip::IntersectionForUnion, PRE_ACCEPT) if decided => drive.set = Some(intersection(counted)),
         (Slip::OneAnswerIsEnough, ACCEPT) if !decided && answers_in_each(counted, 1) => go(drive, COMMIT, counted.set),
         _ => {}
@@ -68,6 +83,17 @@ fn go(drive: &mut Drive, phase: u32, set: Option<Set>) {
 
 fn answers_in_each(drive: &Drive, many: usize) -> bool {
     drive.pieces.shards().all(|shard| drive.answers_from(shard).count() >= many)
+}
+
+fn any_accepted(drive: &Drive) -> bool {
+    drive.answers.iter().flatten().any(|answer| answer.accepted.is_some())
+}
+
+fn equal_in_each(drive: &Drive) -> bool {
+    drive.pieces.shards().all(|shard| {
+        let words: Vec<Option<u64>> = drive.answers_from(shard).map(|answer| answer.word).collect();
+        words.iter().all(|word| word.is_some() && *word == words[0])
+    })
 }
 
 fn take_accepted(counted: &Drive, drive: &mut Drive, choose: fn(&[Vote]) -> Set) {

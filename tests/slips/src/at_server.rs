@@ -53,6 +53,14 @@ pub fn step(slip: Slip, server: &mut Server, message: &Message) -> Result<Messag
             server.record_mut(*t).arrival = Some(0);
             Ok(Message::PreAcceptOk { t: *t, server: server.id, ballot: *ballot, word: 0 })
         }
+        (Slip::BehindBeforeDone, _) => {
+            let answer = true_step(server, message)?;
+            let promise = server.record(message.t()).promise;
+            Ok(match message.ballot() {
+                Some(asked) if promise > asked => Message::Behind { t: message.t(), server: server.id, asked, promise },
+                _ => answer,
+            })
+        }
         (Slip::StoresNothing, _) => true_step(&mut server.clone(), message),
         _ => true_step(server, message),
     }

@@ -38,10 +38,18 @@ pub enum Slip {
     InventedCount,
     /// An impostor: a run until 0 that executes the first group and only logs the others.
     FirstGroupOnly,
+    /// The fast path at a recovery ballot.
+    FastAtRecovery,
+    /// Recovery asks anew although it has equal words.
+    EqualWordsIgnored,
+    /// Again forgets the promises that it saw.
+    AgainForgetsPromises,
+    /// A promise above the ballot is answered Behind although the number is committed.
+    BehindBeforeDone,
 }
 
 impl Slip {
-    pub const ALL: [Slip; 14] = [
+    pub const ALL: [Slip; 18] = [
         Slip::PreAcceptForgetsAccepted,
         Slip::CommonestAccepted,
         Slip::FastOnTwoOfThree,
@@ -56,7 +64,19 @@ impl Slip {
         Slip::StoresNothing,
         Slip::InventedCount,
         Slip::FirstGroupOnly,
+        Slip::FastAtRecovery,
+        Slip::EqualWordsIgnored,
+        Slip::AgainForgetsPromises,
+        Slip::BehindBeforeDone,
     ];
+
+    /// Whether a history can break a promise by it. The others are told from the model by their steps alone.
+    pub fn breaks_promises(self) -> bool {
+        !matches!(
+            self,
+            Slip::FastAtRecovery | Slip::EqualWordsIgnored | Slip::AgainForgetsPromises | Slip::BehindBeforeDone
+        )
+    }
 
     pub fn words(self) -> &'static str {
         match self {
@@ -74,6 +94,10 @@ impl Slip {
             Slip::StoresNothing => "a server answers and stores nothing",
             Slip::InventedCount => "a run reports an invented number",
             Slip::FirstGroupOnly => "a run until 0 executes the first group and only logs the rest",
+            Slip::FastAtRecovery => "the fast path at a recovery ballot",
+            Slip::EqualWordsIgnored => "recovery asks anew although it has equal words",
+            Slip::AgainForgetsPromises => "Again forgets the promises that it saw",
+            Slip::BehindBeforeDone => "Behind is answered before Done",
         }
     }
 }
@@ -126,7 +150,7 @@ impl Engine for Slipped {
     }
 
     fn again(&self, drive: &mut Drive) -> Result<(), Refusal> {
-        Plain.again(drive)
+        at_drive::again(self.0, drive)
     }
 
     fn move_on(&self, drive: &mut Drive) -> Result<(), Refusal> {

@@ -9,6 +9,8 @@ use std::time::Instant;
 
 /// Histories tried for a slip before it counts as missed.
 const MOST: u64 = 100_000;
+/// Histories played with a slip that is harmless to the promises.
+const HARMLESS: u64 = 1_000;
 
 fn main() -> ExitCode {
     let read = |file: String| {
@@ -16,8 +18,10 @@ fn main() -> ExitCode {
         (file, text)
     };
     let scenarios: Vec<(String, String)> = std::env::args().skip(1).map(read).collect();
-    let missed = Slip::ALL.into_iter().filter(|slip| !show(*slip, &scenarios)).count();
-    if missed == 0 {
+    let (breaking, harmless): (Vec<Slip>, Vec<Slip>) = Slip::ALL.into_iter().partition(|slip| slip.breaks_promises());
+    let missed = breaking.into_iter().filter(|slip| !show(*slip, &scenarios)).count();
+    let alarms = harmless.into_iter().filter(|slip| !pass(*slip)).count();
+    if missed + alarms == 0 {
         ExitCode::SUCCESS
     } else {
         ExitCode::FAILURE
@@ -43,6 +47,19 @@ fn show(slip: Slip, scenarios: &[(String, String)]) -> bool {
         }
     }
     found.is_some()
+}
+
+/// Plays histories with a slip by which none can break. Answers whether none did.
+fn pass(slip: Slip) -> bool {
+    println!("{}", slip.words());
+    match (0..HARMLESS).map(|seed| play(&Slipped(slip), seed, false)).find(|history| history.fault.is_some()) {
+        None => println!("  breaks nothing in {HARMLESS} histories: steps alone tell it from the model"),
+        Some(history) => {
+            println!("  FALSE ALARM, seed {}", history.seed);
+            return false;
+        }
+    }
+    true
 }
 
 fn find(slip: Slip) -> Option<History> {

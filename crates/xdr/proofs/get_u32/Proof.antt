@@ -2,7 +2,8 @@
 use native.Mathlib.Omega.{arith}
 use borrow.Author.Needs.{needs}
 use Rattle.xdr.specs.Read.{got32-stay, got32-short, got32-read}
-use Rattle.xdr.specs.Form.{u32, reads-got}
+use Rattle.xdr.specs.Form.{u32}
+use Rattle.xdr.specs.Reading.{reads-got}
 use Rattle.xdr.proofs.get_u32.Statement.{statement}
 use Rattle.xdr.proofs.get_u32.Tie as tie
 

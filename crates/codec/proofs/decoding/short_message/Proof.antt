@@ -1,5 +1,6 @@
 -- The fault decides. Assumes nothing.
-use mathlib.Core.Path.{_∙_}
+use mathlib.Core.Path.{ap, _∙_}
+use Rattle.wire.specs.declared.Message.{Message}
 use Rattle.codec.proofs.ReadWhole.{as-bad, as-good}
 use borrow.Author.Needs.{needs}
 use Rattle.codec.proofs.decoding.short_message.Statement.{statement}
@@ -14,8 +15,11 @@ refused-requires c κs = search needs
 returns : tie.Need-returns
 returns c = c .refused .ensures ∙ as-bad _ _ _ (c .before .before .fault-of .ensures) (c .before .if1 .taken)
 
+plain-requires : tie.Need-plain-requires
+plain-requires c κs = search needs
+
 returns-2 : tie.Need-returns-2
-returns-2 c = as-good _ _ _ (c .before .fault-of .ensures) (c .if1 .left)
+returns-2 c = ap (λ (m : Message). record { refusal = 0; message = m }) (c .plain .ensures) ∙ as-good _ _ _ (c .before .before .fault-of .ensures) (c .before .if1 .left)
 
 pub short-message-spec : {M : Type 1} → statement M
-short-message-spec = tie.close (tie.spec fault-of-requires refused-requires returns returns-2)
+short-message-spec = tie.close (tie.spec fault-of-requires refused-requires returns plain-requires returns-2)

@@ -51,7 +51,7 @@ agree-requires-3 c κs = search needs
 
 returns : tie.Need-returns
 unfolding equalIn agree
-returns c = rw (c .agree3 .ensures, c .before .agree2 .ensures, c .before .before .agree .ensures, c .before .before .before .before .before .before .server-of3 .ensures, c .before .before .before .before .before .before .before .server-of2 .ensures, c .before .before .before .before .before .before .before .before .server-of .ensures)
+returns c = rw (c .agree3 .ensures, c .before .agree2 .ensures, c .before .before .agree .ensures, ← c .before .before .before .before .before .before .server-of3 .ensures, ← c .before .before .before .before .before .before .before .server-of2 .ensures, ← c .before .before .before .before .before .before .before .before .server-of .ensures)
 
 pub equal-in-spec : {M : Type 1} → statement M
 equal-in-spec =

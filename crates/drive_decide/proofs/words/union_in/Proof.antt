@@ -4,6 +4,7 @@ use mathlib.Core.Path.{_≡_, ap, _∙_}
 use native.Mathlib.Omega.{arith}
 use borrow.Author.Needs.{needs}
 use Rattle.drive.specs.Decide.{wordIn, unionIn}
+use Rattle.masks.specs.Bits.{union}
 use Rattle.masks.specs.Folds.{unionOf}
 use Rattle.masks.proofs.Turns.{unions-none, unions-step}
 use Rattle.drive_decide.proofs.words.union_in.Statement.{statement}
@@ -33,9 +34,6 @@ element-copy-out-a c = search needs
 word-of-requires : tie.Need-word-of-requires Inv-loop μ-loop
 word-of-requires c κs = search needs
 
-union-requires : tie.Need-union-requires Inv-loop μ-loop
-union-requires c κs = search needs
-
 add-r : tie.Need-add-r Inv-loop μ-loop
 add-r c = search needs
 
@@ -43,8 +41,9 @@ loop-less : tie.Need-loop-less Inv-loop μ-loop
 loop-less c = search needs
 
 loop-again : tie.Need-loop-again Inv-loop μ-loop
-unfolding wordIn
-loop-again c = (search needs, rw (c .union .ensures, c .before .word-of .ensures, c .before .before .before .server-of .ensures, unions-step, c .before .before .before .before .before .loop .inv .1))
+unfolding wordIn union
+loop-again c =
+    (search needs, rw (c .word-of .ensures, c .before .before .server-of .ensures, unions-step, c .before .before .before .before .loop .inv .1))
 
 returns : tie.Need-returns Inv-loop μ-loop
 unfolding unionIn
@@ -62,7 +61,6 @@ union-in-spec =
     mul-a
     element-copy-out-a
     word-of-requires
-    union-requires
     add-r
     loop-less
     loop-again

@@ -21,7 +21,7 @@ has-requires c κs = search needs
 
 returns : tie.Need-returns
 unfolding misplacedBy
-returns c = rw (c .has .ensures, c .before .before .before .addressed .ensures, c .before .before .before .before .before .before .before .other-phase .ensures, c .before .before .before .before .before .before .before .before .before .before .before .shape-of .ensures)
+returns c = rw (c .has .ensures, c .before .before .addressed .ensures, c .before .before .before .before .before .other-phase .ensures, c .before .before .before .before .before .before .before .before .before .shape-of .ensures)
 
 pub misplaced-spec : {M : Type 1} → statement M
 misplaced-spec =

@@ -1,5 +1,5 @@
 -- The flag decides; the two optional items are read in a row. Assumes nothing.
-use Rattle.xdr.specs.Form.{reads-when, reads-none, reads-then}
+use Rattle.xdr.specs.Reading.{reads-when, reads-none, reads-then}
 use Rattle.rules.specs.Maybe.{noWord, noVote}
 use Rattle.wire.specs.Parts.{prepared}
 use borrow.Author.Needs.{needs}

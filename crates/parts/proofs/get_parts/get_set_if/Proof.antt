@@ -1,5 +1,5 @@
 -- The flag decides. Assumes nothing.
-use Rattle.xdr.specs.Form.{reads-when, reads-none}
+use Rattle.xdr.specs.Reading.{reads-when, reads-none}
 use Rattle.rules.specs.Sets.{noSet}
 use Rattle.wire.specs.Parts.{set4}
 use borrow.Author.Needs.{needs}

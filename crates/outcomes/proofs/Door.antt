@@ -1,0 +1,59 @@
+-- Two outcomes that meet the contract of a public function of `door` are equal. Written by tools/outcomes. Assumes nothing.
+use mathlib.Core.Path.{sym, _∙_}
+use mathlib.Core.List.{List}
+use Prim.Native.Nat.{ℕ}
+use Rattle.outcomes.specs.Once.{Answers, Leaves}
+use Rattle.door.proofs.exchange.take.Reads as door·exchange·take-contract
+use Rattle.door.proofs.exchange.take_reply.Reads as door·exchange·take-reply-contract
+use Rattle.door.proofs.exchange.post.Reads as door·exchange·post-contract
+use Rattle.door.proofs.readings.counter.Reads as door·readings·counter-contract
+use Rattle.door.proofs.readings.log_entry.Reads as door·readings·log-entry-contract
+use Rattle.door.proofs.readings.result.Reads as door·readings·result-contract
+use Rattle.door.proofs.told.begun_refusal.Reads as door·told·begun-refusal-contract
+use Rattle.door.proofs.told.begun_server.Reads as door·told·begun-server-contract
+use Rattle.door.proofs.told.ran_counted.Reads as door·told·ran-counted-contract
+use Rattle.door.proofs.told.ran_server.Reads as door·told·ran-server-contract
+use Rattle.door.proofs.told.taken_answer.Reads as door·told·taken-answer-contract
+use Rattle.door.proofs.told.taken_server.Reads as door·told·taken-server-contract
+
+pub door·exchange·take : Answers door·exchange·take-contract.Post
+door·exchange·take κ a x y e e′ p q = p .0 ∙ sym (q .0)
+
+pub door·exchange·take·leaves-output : Leaves {B = List ℕ} (λ κ e. e .1 .1 .0 .now) door·exchange·take-contract.Post
+door·exchange·take·leaves-output κ a x y e e′ p q = p .1 ∙ sym (q .1)
+
+pub door·exchange·take-reply : Answers door·exchange·take-reply-contract.Post
+door·exchange·take-reply κ a x y e e′ p q = p ∙ sym q
+
+pub door·exchange·post : Answers door·exchange·post-contract.Post
+door·exchange·post κ a x y e e′ p q = p .0 ∙ sym (q .0)
+
+pub door·exchange·post·leaves-output : Leaves {B = List ℕ} (λ κ e. e .1 .0 .now) door·exchange·post-contract.Post
+door·exchange·post·leaves-output κ a x y e e′ p q = p .1 ∙ sym (q .1)
+
+pub door·readings·counter : Answers door·readings·counter-contract.Post
+door·readings·counter κ a x y e e′ p q = p ∙ sym q
+
+pub door·readings·log-entry : Answers door·readings·log-entry-contract.Post
+door·readings·log-entry κ a x y e e′ p q = p ∙ sym q
+
+pub door·readings·result : Answers door·readings·result-contract.Post
+door·readings·result κ a x y e e′ p q = p ∙ sym q
+
+pub door·told·begun-refusal : Answers door·told·begun-refusal-contract.Post
+door·told·begun-refusal κ a x y e e′ p q = p ∙ sym q
+
+pub door·told·begun-server : Answers door·told·begun-server-contract.Post
+door·told·begun-server κ a x y e e′ p q = p ∙ sym q
+
+pub door·told·ran-counted : Answers door·told·ran-counted-contract.Post
+door·told·ran-counted κ a x y e e′ p q = p ∙ sym q
+
+pub door·told·ran-server : Answers door·told·ran-server-contract.Post
+door·told·ran-server κ a x y e e′ p q = p ∙ sym q
+
+pub door·told·taken-answer : Answers door·told·taken-answer-contract.Post
+door·told·taken-answer κ a x y e e′ p q = p ∙ sym q
+
+pub door·told·taken-server : Answers door·told·taken-server-contract.Post
+door·told·taken-server κ a x y e e′ p q = p ∙ sym q
