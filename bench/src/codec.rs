@@ -1,0 +1,99 @@
+//! Encoding and decoding: the library, plain Rust, and rpcgen's code over libtirpc.
+
+use crate::meter::{head, line, Cost, Meter};
+use crate::states::pieces;
+use engine::layout::{MaybeVote, MaybeWord, Pieces, Set, Values};
+use engine::{image, LONGEST};
+use model::{codec, Message};
+use std::ffi::c_int;
+use std::hint::black_box;
+
+/// The library's message, of the header's `drobulets_message`.
+#[repr(C)]
+#[derive(Clone, Copy, Default)]
+struct Flat {
+    code: u32,
+    t: u32,
+    server: u32,
+    ballot: u32,
+    promise: u32,
+    pieces: Pieces,
+    set: Set,
+    word: u64,
+    arrival: MaybeWord,
+    accepted: MaybeVote,
+    values: Values,
+}
+
+/// The refusal and the message.
+#[repr(C)]
+struct Decoded(u32, Flat);
+
+/// The refusal and the length.
+#[repr(C)]
+#[derive(Debug, PartialEq)]
+struct Answer(u32, u32);
+
+extern "C" {
+    fn drobulets_decode(input: *const u8, length: usize) -> Decoded;
+    fn drobulets_encode(message: Flat, output: *mut u8, room: usize) -> Answer;
+    fn tirpc_decode(longest: c_int, bytes: *const u8, length: u32) -> u32;
+    fn tirpc_encode(longest: c_int, bytes: *mut u8, room: u32) -> u32;
+}
+
+/// Calls in a try.
+const TIMES: u32 = 1000;
+
+pub fn measure(meter: &Meter) {
+    let accept = Message::Accept { t: 9, ballot: 8, pieces: pieces(8), set: model::Set([1, 2, 4, 8]) };
+    let samples = [("Accept, 8 pieces", 1, accept), ("Inquire", 0, Message::Inquire { t: 9 })];
+    let costs = samples.map(|(name, longest, plain)| {
+        let bytes = codec::bytes_of(&plain).expect("a good message");
+        let (encode, decode) = (format!("encode {name}"), format!("decode {name}"));
+        [encoding(meter, longest, &plain, &bytes, encode), decoding(meter, longest, &plain, &bytes, decode)]
+    });
+    head("Codec against libtirpc", "libtirpc");
+    costs.iter().flatten().for_each(|(name, [ours, _, tirpc])| line(name, *ours, *tirpc, Some(0.5)));
+    head("Codec against plain Rust", "Rust");
+    costs.iter().flatten().for_each(|(name, [ours, rust, _])| line(name, *ours, *rust, Some(1.2)));
+}
+
+/// The costs of the library, Rust, libtirpc. The three must write the same bytes and none behind them.
+fn encoding(meter: &Meter, longest: c_int, plain: &Message, bytes: &[u8], name: String) -> (String, [Cost; 3]) {
+    let pieces = plain.pieces().map_or(Pieces::default(), image::pieces_image);
+    let (ballot, set) = (plain.ballot().unwrap_or(0), plain.set().map_or(Set::default(), image::set_image));
+    let flat = Flat { code: plain.code(), t: plain.t(), ballot, pieces, set, ..Flat::default() };
+    let many = bytes.len() as u32;
+    assert_eq!(unsafe { tirpc_decode(longest, bytes.as_ptr(), many) }, many);
+    let before = [0xA5u8; LONGEST];
+    let (ours, a) = meter.of(&format!("{name} library"), TIMES, &before, |to| {
+        assert_eq!(unsafe { drobulets_encode(*black_box(&flat), to.as_mut_ptr(), LONGEST) }, Answer(0, many));
+    });
+    let (rust, b) = meter.of(&format!("{name} Rust"), TIMES, &before, |to| {
+        assert_eq!(codec::encode(black_box(plain), &mut to[..]), Ok(many as usize));
+    });
+    let (tirpc, c) = meter.of(&format!("{name} libtirpc"), TIMES, &before, |to| {
+        assert_eq!(unsafe { tirpc_encode(longest, to.as_mut_ptr(), LONGEST as u32) }, many);
+    });
+    assert!([a, b, c].iter().all(|w| w.starts_with(bytes) && w[bytes.len()..].iter().all(|byte| *byte == 0xA5)));
+    (name, [ours, rust, tirpc])
+}
+
+/// The costs of the library, Rust, libtirpc. What the three read must be the same, or encode to the same bytes again.
+fn decoding(meter: &Meter, longest: c_int, plain: &Message, bytes: &[u8], name: String) -> (String, [Cost; 3]) {
+    let (from, many) = (bytes.as_ptr(), bytes.len());
+    let (ours, _) = meter.of(&format!("{name} library"), TIMES, &(), |_| {
+        assert_eq!(black_box(&unsafe { drobulets_decode(black_box(from), many) }).0, 0);
+    });
+    let (rust, _) = meter.of(&format!("{name} Rust"), TIMES, &(), |_| {
+        assert!(black_box(&codec::decode(black_box(bytes))).is_ok());
+    });
+    let (tirpc, _) = meter.of(&format!("{name} libtirpc"), TIMES, &(), |_| {
+        assert_eq!(unsafe { tirpc_decode(longest, black_box(from), many as u32) } as usize, many);
+    });
+    let mut again = [[0u8; LONGEST]; 2];
+    unsafe { drobulets_encode(drobulets_decode(from, many).1, again[0].as_mut_ptr(), LONGEST) };
+    unsafe { tirpc_encode(longest, again[1].as_mut_ptr(), LONGEST as u32) };
+    assert!(codec::decode(bytes) == Ok(*plain) && again.iter().all(|a| a.starts_with(bytes)));
+    (name, [ours, rust, tirpc])
+}
