@@ -7,5 +7,6 @@ fn main() {
     if std::env::var_os("CARGO_FEATURE_ARCHIVE").is_some() {
         let archive = Path::new(env!("CARGO_MANIFEST_DIR")).join("../../target/staticlib");
         println!("cargo:rustc-link-search=native={}", archive.display());
+        println!("cargo:rerun-if-changed={}/libstation.a", archive.display());
     }
 }
