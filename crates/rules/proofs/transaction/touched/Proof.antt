@@ -1,20 +1,20 @@
--- `pieces::touched` meets its contract: the word holds the shards of the pieces passed, and `kept` says whether they keep rule 2. Assumes nothing.
+-- `rules::transaction::touched` meets its contract: the word holds the shards of the pieces passed, and `kept` says whether they keep rule 2. Assumes nothing.
 use mathlib.Core.Path.{_≡_, refl, sym, ap, _∙_}
 use borrow.Author.Tests.{leb-true, lt-ltb}
-use Rattle.server_form.specs.OnePass.{touchedBy}
+use Rattle.rules.specs.Pieces.{touchedBy}
 use lib.Dec.{leb}
 use Rattle.rules.proofs.OnePass.{shardsPassed, shards-none, shards-step}
 use mathlib.Core.Bool.{true, false, _&&_}
 use native.Mathlib.Omega.{arith}
-use Rattle.server_form.proofs.TouchedWord.{lastPlace, last-none, last-step, entry-rises, walked}
+use Rattle.rules.proofs.TouchedWord.{lastPlace, last-none, last-step, entry-rises, walked}
 use Rattle.masks.specs.Folds.{allBelow}
 use Prim.Native.Nat.{_-_, _≤_}
 use Rattle.rules.specs.Pieces.{entryKept, piecesKept}
 use Rattle.masks.proofs.Turns.{all-none, all-step}
 use Rattle.masks.proofs.Bools.{and-yes-r, not-yes, not-no}
 use borrow.Author.Needs.{needs}
-use Rattle.server_form.proofs.pieces.touched.Tie as tie
-use Rattle.server_form.proofs.pieces.touched.Statement.{statement}
+use Rattle.rules.proofs.transaction.touched.Tie as tie
+use Rattle.rules.proofs.transaction.touched.Statement.{statement}
 
 abbrev Inv-loop : tie.InvT-loop
 Inv-loop ps n enough kept₀ last₀ word₀ i₀ kept last word i = (i ≤ n) × (n ≤ 8) × (n ≡ ps .count) × (kept ≡ allBelow (entryKept ps) i) × (last ≡ lastPlace ps i) × (word ≡ shardsPassed ps i)
