@@ -1,2 +1,2 @@
 pub mod Unwritten
-pub mod OneRecord
+pub mod Stored

@@ -32,7 +32,9 @@ pub extern "C" fn drobulets_server_take(s: &mut Server, input: &[u8], output: &m
 {
     let o = door::exchange::take(*s, input, output);
     let answer = door::told::taken_answer(o);
-    *s = door::told::taken_server(o);
+    let i = door::told::taken_place(o);
+    let v = door::told::taken_record(o);
+    s.records[i] = v;
     answer
 }
 

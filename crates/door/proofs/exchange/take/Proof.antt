@@ -8,7 +8,7 @@ use Rattle.wire.specs.Encoding.{encode}
 use Rattle.server.specs.Serve.{serve}
 use Rattle.door.specs.Exchange.{take, taken}
 use Rattle.door.proofs.Unwritten.{unwritten}
-use Rattle.door.proofs.OneRecord.{by-step, untaken, not-written, wrote}
+use Rattle.door.proofs.Stored.{by-step, untaken, not-written, wrote}
 use Rattle.door.proofs.exchange.take.Statement.{statement}
 use Rattle.door.proofs.exchange.take.Tie as tie
 

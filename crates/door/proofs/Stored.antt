@@ -71,15 +71,21 @@ module _ (s : Server) (i : ℕ) (z : List ℕ) (d : Decoded) (v : Served) (e : E
   exchanged-put : putRecord s i (recordAt (exchanged s z d v e .server) i) ≡ exchanged s z d v e .server
   exchanged-put = by-tests (there (d .refusal)) (there (v .refusal)) (there (e .refusal)) refl refl refl
 
--- the lent server with the record that is handed on in its place is the server after the message
-pub one-record : (s : Server) (input z : List ℕ) → putRecord s (taken s input z .place) (taken s input z .after) ≡ take s input z .server
-unfolding take taken considered consideredAt
-one-record s input z =
-    let m = decode input .message in
-    let server : serve s m .server ≡ putRecord s (placeOf (m .t)) (considered s m .after) = ap (λ (x : Served). x .server) (sym (step-is-serve s m)) in
-    exchanged-put s (placeOf (m .t)) z (decode input) (serve s m) (encode (serve s m .reply) z)
-    (rw server (again s (placeOf (m .t)) (considered s m .after)))
+-- ---- what `take` tells, where the record that it tells is put, and that the lent server with the record there is the server after the message
 
-pub place-of : (s : Server) (input z : List ℕ) → taken s input z .place < 64
-unfolding taken
-place-of s input z = place-lt (decode input .message .t) (placeOf (decode input .message .t)) refl
+module _ (s : Server) (input z : List ℕ) where
+  pub take-told : taken s input z .answer ≡ take s input z .answer
+  unfolding taken
+  take-told = refl
+
+  pub take-below : taken s input z .place < 64
+  unfolding taken
+  take-below = place-lt (decode input .message .t) (placeOf (decode input .message .t)) refl
+
+  pub take-left : putRecord s (taken s input z .place) (taken s input z .after) ≡ take s input z .server
+  unfolding take taken considered consideredAt
+  take-left =
+      let m = decode input .message in
+      let server : serve s m .server ≡ putRecord s (placeOf (m .t)) (considered s m .after) = ap (λ (x : Served). x .server) (sym (step-is-serve s m)) in
+      exchanged-put s (placeOf (m .t)) z (decode input) (serve s m) (encode (serve s m .reply) z)
+      (rw server (again s (placeOf (m .t)) (considered s m .after)))
