@@ -111,7 +111,22 @@ impl Message {
 
     /// The transaction number. Every message has one.
     pub fn t(&self) -> u32 {
-        layout::Message::from(self).t
+        match *self {
+            Message::PreAccept { t, .. }
+            | Message::Accept { t, .. }
+            | Message::Commit { t, .. }
+            | Message::Prepare { t, .. }
+            | Message::Inquire { t }
+            | Message::Fetch { t }
+            | Message::PreAcceptOk { t, .. }
+            | Message::AcceptOk { t, .. }
+            | Message::CommitOk { t, .. }
+            | Message::PrepareOk { t, .. }
+            | Message::Done { t, .. }
+            | Message::Behind { t, .. }
+            | Message::NotYet { t, .. }
+            | Message::Results { t, .. } => t,
+        }
     }
 }
 
