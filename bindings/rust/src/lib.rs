@@ -43,7 +43,8 @@
 //! ```
 //!
 //! Every method is safe, on any bytes and numbers. A call needs [`STACK`] bytes of stack, which every thread of Rust's has unless it
-//! was given less.
+//! was given less. The archive touches its stack page by page, so a stack that is too small ends the process at its guard page, as
+//! in any Rust program.
 //!
 //! The archive is looked for in the folder that the environment variable `DROBULETS_LIB` names when this crate is built, else in the
 //! repository's `target/staticlib`. It is for x86-64 Linux.
