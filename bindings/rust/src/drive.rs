@@ -6,8 +6,8 @@ use crate::{raw, servers_in, stored, Message, Refusal};
 
 /// What carries one transaction for one coordinator. It is always in form, so none of its methods refuses 13.
 ///
-/// A host persists it ([`to_bytes`](Drive::to_bytes)) after [`start`](Drive::start), [`recover`](Drive::recover) and
-/// [`again`](Drive::again), before anything due is sent: each ballot of a number is taken once.
+/// A host persists it ([`to_bytes`](Drive::to_bytes)) before it sends what is due: each ballot of a number is taken once, and a drive
+/// that goes on after a restart must be the one before the last sending.
 #[derive(Clone, Debug, PartialEq, Eq)]
 pub struct Drive {
     state: layout::Drive,
