@@ -1,20 +1,26 @@
-//! Every number that a lent state holds, one by one, so that any of them can be changed.
+//! Every number of a state, one by one, so that it can be stored, and any of them changed.
 
-use engine::layout::{Answer, Drive, MaybeSet, MaybeVote, MaybeWord, Pieces, Record, Server, Set, Values};
+use super::{Drive, MaybeSet, MaybeVote, MaybeWord, Pieces, Record, Server, Set, Slot, Values};
 
 /// A place for a number in a state.
 pub enum Place<'a> {
+    /// Unsigned, 32 bits.
     Number(&'a mut u32),
+    /// Signed, 32 bits.
     Signed(&'a mut i32),
+    /// A word of 64 bits.
     Word(&'a mut u64),
 }
 
+/// What is called with each place.
 pub type Visit<'v> = &'v mut dyn FnMut(Place);
 
-/// A state whose numbers can be visited, always in the same order.
+/// A state whose numbers can be visited one by one, always in the order of the struct.
 pub trait Numbers {
+    /// Visits each number, those that are ignored too.
     fn visit(&mut self, visit: Visit);
 
+    /// How many numbers there are.
     fn many(&mut self) -> u32 {
         let mut many = 0;
         self.visit(&mut |_| many += 1);
@@ -100,7 +106,7 @@ impl Numbers for Server {
     }
 }
 
-impl Numbers for Answer {
+impl Numbers for Slot {
     fn visit(&mut self, visit: Visit) {
         number(visit, &mut self.counted);
         self.arrival.visit(visit);
