@@ -1,4 +1,4 @@
--- A transaction's pieces in one walk that stores in place: what the stores of one piece make is its run, and the pieces that are not walked do nothing.
+-- A transaction's pieces run one after the other, each storing in place: what the stores of one piece make is its run, and the pieces that are not walked do nothing.
 -- Assumes nothing.
 use mathlib.Core.Path.{_≡_, refl, sym, ap, _∙_}
 use mathlib.Core.Bool.{Bool, true, false, cond, _&&_}
@@ -20,7 +20,7 @@ use Rattle.counters.specs.declared.Counters.{Counters}
 use Rattle.counters.specs.declared.Outcome.{Outcome}
 use Rattle.counters.specs.declared.Executed.{Executed}
 use Rattle.counters.specs.Effects.{zeroed, counterAt, withCounter, effect, runPiece, runEntry, execute}
-use Rattle.counters.specs.InPlace.{placeOf, walked}
+use Rattle.counters.specs.InPlace.{placeOf, runAt, walked}
 use Rattle.counters.proofs.PerKey.{begun}
 
 -- ---- the bounds that the code asks for
@@ -43,21 +43,25 @@ walked-le count r e = rw e (go (leb 8 count) refl)
 
 -- ---- one piece
 
--- the counters and results after the stores, where the piece's key is known or is not
-stores : Bool → ℕ → Piece → Executed → Executed
-stores known at p e =
-    let there = getD (e .counters .list) at zeroed in
-    let x = effect (p .kind) (p .operand) (cond known there zeroed) in
-    record { counters = withCounter (e .counters) at (cond known (x .counter) there); values = withValue (e .values) (x .result) }
+-- the stores of a piece, at a place of the counters
+stores : ℕ → Piece → Executed → Executed
+stores at p e = let x = runAt p (getD (e .counters .list) at zeroed) in record { counters = withCounter (e .counters) at (x .counter); values = withValue (e .values) (x .result) }
 
-stores-run : (p : Piece) (e : Executed) → length (e .counters .list) ≡ 16 → stores (ltb (p .key) KEYS) (placeOf (p .key)) p e ≡ runPiece p e
-unfolding placeOf runPiece stores
+stores-run : (p : Piece) (e : Executed) → length (e .counters .list) ≡ 16 → stores (placeOf (p .key)) p e ≡ runPiece p e
+unfolding stores placeOf runAt runPiece
 stores-run p e long = go (ltb (p .key) KEYS) refl
   where
     past : 16 ≤ p .key → counterAt (e .counters) (p .key) ≡ zeroed
     past h = List·getD-eq-default (e .counters .list) zeroed (omega (arith, long))
 
-    go : (b : Bool) → ltb (p .key) KEYS ≡ b → stores b (cond b (p .key) 0) p e ≡ runPiece p e
+    -- the same, where the key is known or is not
+    by : Bool → Executed
+    by b =
+        let there = getD (e .counters .list) (cond b (p .key) 0) zeroed in
+        let x = effect (p .kind) (p .operand) (cond b there zeroed) in
+        record { counters = withCounter (e .counters) (cond b (p .key) 0) (cond b (x .counter) there); values = withValue (e .values) (x .result) }
+
+    go : (b : Bool) → ltb (p .key) KEYS ≡ b → by b ≡ runPiece p e
     go true q = refl
     go false q =
         let h = ltb-false (p .key) 16 q in
@@ -85,20 +89,13 @@ module _ (ps : Pieces) (k : ℕ) where
   module _ (i : ℕ) (counted : i < ps .count) (e : Executed) where
     pub stored : length (e .counters .list) ≡ 16 → eqb (pieceAt ps i .shard) k ≡ true
         → (at : ℕ) → at ≡ placeOf (pieceAt ps i .key)
-        → (old : Counter) → old ≡ cond (ltb (pieceAt ps i .key) KEYS) (getD (e .counters .list) at zeroed) zeroed
-        → (x : Outcome) → x ≡ effect (pieceAt ps i .kind) (pieceAt ps i .operand) old
-        → (after : Counter) → after ≡ cond (ltb (pieceAt ps i .key) KEYS) (x .counter) (getD (e .counters .list) at zeroed)
-        → (c : Counters) → c ≡ withCounter (e .counters) at after
-        → (r : Values) → r ≡ withValue (e .values) (x .result)
-        → record { counters = c; values = r } ≡ runEntry ps k i e
+        → (x : Outcome) → x ≡ runAt (pieceAt ps i) (getD (e .counters .list) at zeroed)
+        → record { counters = withCounter (e .counters) at (x .counter); values = withValue (e .values) (x .result) } ≡ runEntry ps k i e
     unfolding stores
-    stored long here at p old q x s after t c u r v =
-        rw (u, v, t, s, q, p) (stores-run (pieceAt ps i) e long ∙ entry-on i e (walked-on i counted ∙ here))
+    stored long here at p x s = rw (s, p) (stores-run (pieceAt ps i) e long ∙ entry-on i e (walked-on i counted ∙ here))
 
-    pub passed : eqb (pieceAt ps i .shard) k ≡ false
-        → (c : Counters) → c ≡ e .counters → (r : Values) → r ≡ e .values
-        → record { counters = c; values = r } ≡ runEntry ps k i e
-    passed off c u r v = rw (u, v) (entry-off i e (walked-on i counted ∙ off))
+    pub passed : eqb (pieceAt ps i .shard) k ≡ false → e ≡ runEntry ps k i e
+    passed off = entry-off i e (walked-on i counted ∙ off)
 
   -- ---- the pieces that are not walked
 
