@@ -11,11 +11,9 @@ use lib.Seq.{set-out, set-getD}
 use Rattle.masks.specs.Folds.{iter}
 use Rattle.rules.specs.declared.Piece.{Piece}
 use Rattle.rules.specs.declared.Pieces.{Pieces}
-use Rattle.rules.specs.declared.Values.{Values}
 use Rattle.rules.specs.Cluster.{KEYS}
 use Rattle.rules.specs.Pieces.{pieceAt, onShard}
 use Rattle.rules.specs.Values.{withValue}
-use Rattle.counters.specs.declared.Counter.{Counter}
 use Rattle.counters.specs.declared.Counters.{Counters}
 use Rattle.counters.specs.declared.Outcome.{Outcome}
 use Rattle.counters.specs.declared.Executed.{Executed}

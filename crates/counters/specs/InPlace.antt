@@ -1,7 +1,6 @@
 -- A transaction's pieces run one after the other, each storing in place: where a key's counter stands, what a piece leaves there and gives, and how many pieces
 -- there are to run.
 use Prim.Native.Nat.{ℕ}
-use mathlib.Core.Bool.{cond}
 use lib.Dec.{ltb, leb}
 use Rattle.rules.specs.declared.Piece.{Piece}
 use Rattle.rules.specs.Choice.{_if_else_}

@@ -3,7 +3,7 @@
 use Prim.Native.Nat.{ℕ, zero, suc, _+_, _-_, _^_, _≤_, _<_}
 use mathlib.Core.Path.{_≡_, refl, sym, ap, ap₂, _∙_, subst}
 use native.Mathlib.Omega.{arith}
-use mathlib.Core.Bool.{Bool, true, false, cond, true≢false}
+use mathlib.Core.Bool.{Bool, true, false, cond}
 use mathlib.Core.List.{List}
 use lib.ListN.{length, set}
 use Rattle.masks.specs.Bits.{has, union}
@@ -32,7 +32,7 @@ use Rattle.server.specs.Held.{recordAt, shard, committedWord, ranWord, append}
 use Rattle.server.specs.Form.{formed}
 use Rattle.server.specs.Run.{depsOf, nextRun, withResults, stored, runOne, runGroup, run, turns, ranFrom, ranNone}
 use Rattle.server.proofs.FormParts.{formed-parts}
-use Rattle.server.proofs.LogGrows.{logWord, lined-size}
+use Rattle.server.proofs.LogGrows.{lined-size}
 use Rattle.server.proofs.RunGroups.{over-id, over-count, group-id, group-long, group-deps, group-committed-word, group-count, group-ran}
 use Rattle.server.proofs.RunKeepsForm.{formed-lined, log-kept}
 use Rattle.server.proofs.RunTurns.{turns-none, turns-stop, turns-more, turn-once}
@@ -52,11 +52,6 @@ pub allowed-form : (form : Bool) (limit r : ℕ) → r ≡ allowed form limit �
 unfolding allowed
 allowed-form true limit r e h = refl
 allowed-form false limit r e h = absurd (omega (arith, e, h))
-
-pub allowed-le : (form : Bool) (limit r : ℕ) → r ≡ allowed form limit → r ≤ limit
-unfolding allowed
-allowed-le true limit r e = omega (arith, e)
-allowed-le false limit r e = omega (arith, e)
 
 limited : (b : Bool) (limit : ℕ) (s : Server) → record { refusal = refusalOf b; many = turns (allowed b limit) s .log .count - s .log .count; server = turns (allowed b limit) s } ≡ cond b (ranFrom s (turns limit s)) (ranNone s 13)
 unfolding allowed refusalOf

@@ -2,7 +2,6 @@
 use Prim.Native.Nat.{ℕ, zero, suc, _-_, _^_, _≤_, _<_}
 use mathlib.Core.Path.{_≡_, refl, sym, ap, _∙_, subst}
 use mathlib.Core.Bool.{Bool, true, false, cond}
-use mathlib.Core.List.{List}
 use native.Mathlib.Decide.{decLt}
 use native.Mathlib.Omega.{arith}
 use borrow.Author.Tests.{le-leb, leb-true}
@@ -25,8 +24,7 @@ use Rattle.server.specs.Run.{depsAt, depsOf}
 use Rattle.server.proofs.FormParts.{Formed, formed-parts}
 use Rattle.server.proofs.LogGrows.{logWord}
 use Rattle.server.proofs.RunGroups.{ran-lt}
-use Rattle.server.proofs.RunKeepsForm.{ran-logged, logged-ran, deps-at, log-kept}
-use Rattle.server_form.specs.declared.LogRead.{LogRead}
+use Rattle.server.proofs.RunKeepsForm.{ran-logged, logged-ran, log-kept}
 use Rattle.server_form.specs.OnePass.{readLog}
 use Rattle.server_run.specs.Gathered.{unrunAt}
 

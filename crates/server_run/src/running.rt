@@ -1,6 +1,5 @@
 // Runs one after the other, on one copy of the server.
 ghost use mathlib.Core.Path.{_≡_};
-ghost use Prim.Native.Nat.{_≤_};
 ghost use Rattle.server_run.specs.Limited.{allowed, refusalOf, ranUpTo};
 use crate::gather::named;
 use messages::blanks::no_values;
@@ -29,7 +28,6 @@ fn refusal_of(form: bool) -> u32
 // `server_form::formed`, and each piece stores in place: so the whole server is copied once, and no other function is lent it. What has run is left out of the
 // dependencies: nothing waits for it.
 pub fn repeated(s: Server, limit: u32) -> Ran
-    requires { ⌜ limit ≤ 64 ⌝ }
     ensures { λ r. ⌜ r ≡ ranUpTo limit s ⌝ }
 {
     let mut n = s;

@@ -1,5 +1,5 @@
 -- `server_run::run` meets its contract. Assumes nothing.
-use mathlib.Core.Path.{sym, _∙_}
+use mathlib.Core.Path.{_∙_}
 use Rattle.server_run.proofs.Turning.{run-once}
 use borrow.Author.Needs.{needs}
 use Rattle.server_run.proofs.run.Statement.{statement}
