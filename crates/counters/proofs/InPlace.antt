@@ -4,21 +4,22 @@ use mathlib.Core.Path.{_≡_, refl, sym, ap, _∙_}
 use mathlib.Core.Bool.{Bool, true, false, cond, _&&_}
 use Prim.Native.Nat.{ℕ, zero, suc, _+_, _-_, _<_, _≤_}
 use native.Mathlib.Omega.{arith}
-use borrow.Author.Tests.{lt-ltb, le-ltb, ltb-true, ltb-false, leb-true, leb-false}
-use lib.Dec.{ltb, leb, eqb}
+use borrow.Author.Tests.{le-ltb, ltb-true, ltb-false}
+use lib.Dec.{ltb, eqb}
 use lib.ListN.{length, getD, List·getD-eq-default}
 use lib.Seq.{set-out, set-getD}
 use Rattle.masks.specs.Folds.{iter}
 use Rattle.rules.specs.declared.Piece.{Piece}
 use Rattle.rules.specs.declared.Pieces.{Pieces}
 use Rattle.rules.specs.Cluster.{KEYS}
-use Rattle.rules.specs.Pieces.{pieceAt, onShard}
+use Rattle.rules.specs.Pieces.{pieceAt, used, onShard}
+use Rattle.rules.proofs.OnePass.{used-le, used-counted, on-counted}
 use Rattle.rules.specs.Values.{withValue}
 use Rattle.counters.specs.declared.Counters.{Counters}
 use Rattle.counters.specs.declared.Outcome.{Outcome}
 use Rattle.counters.specs.declared.Executed.{Executed}
 use Rattle.counters.specs.Effects.{zeroed, counterAt, withCounter, effect, runPiece, runEntry, execute}
-use Rattle.counters.specs.InPlace.{placeOf, runAt, walked}
+use Rattle.counters.specs.InPlace.{placeOf, runAt}
 use Rattle.counters.proofs.PerKey.{begun}
 
 -- ---- the bounds that the code asks for
@@ -31,13 +32,8 @@ place-lt key r e = rw e (go (ltb key KEYS) refl)
     go true q = ltb-true key 16 q
     go false q = omega arith
 
-pub walked-le : (count r : ℕ) → r ≡ walked count → (r ≤ 8) × (r ≤ count)
-unfolding walked
-walked-le count r e = rw e (go (leb 8 count) refl)
-  where
-    go : (b : Bool) → leb 8 count ≡ b → (cond b 8 count ≤ 8) × (cond b 8 count ≤ count)
-    go true q = (omega arith, leb-true 8 count q)
-    go false q = (omega (arith, leb-false 8 count q), omega arith)
+pub used-few : (count r : ℕ) → r ≡ used count → (r ≤ 8) × (r ≤ count)
+used-few count r e = rw e (used-le count, used-counted count)
 
 -- ---- one piece
 
@@ -67,10 +63,6 @@ stores-run p e long = go (ltb (p .key) KEYS) refl
         rw (set-getD, past h) (rw (set-out (e .counters .list) (p .key)) refl)
 
 module _ (ps : Pieces) (k : ℕ) where
-  walked-on : (i : ℕ) → i < ps .count → onShard ps k i ≡ eqb (pieceAt ps i .shard) k
-  unfolding onShard
-  walked-on i h = ap (λ (b : Bool). b && eqb (pieceAt ps i .shard) k) (lt-ltb i (ps .count) h)
-
   past-on : (i : ℕ) → ps .count ≤ i → onShard ps k i ≡ false
   unfolding onShard
   past-on i h = ap (λ (b : Bool). b && eqb (pieceAt ps i .shard) k) (le-ltb i (ps .count) h)
@@ -90,10 +82,10 @@ module _ (ps : Pieces) (k : ℕ) where
         → (x : Outcome) → x ≡ runAt (pieceAt ps i) (getD (e .counters .list) at zeroed)
         → record { counters = withCounter (e .counters) at (x .counter); values = withValue (e .values) (x .result) } ≡ runEntry ps k i e
     unfolding stores
-    stored long here at p x s = rw (s, p) (stores-run (pieceAt ps i) e long ∙ entry-on i e (walked-on i counted ∙ here))
+    stored long here at p x s = rw (s, p) (stores-run (pieceAt ps i) e long ∙ entry-on i e (on-counted ps k i counted ∙ here))
 
     pub passed : eqb (pieceAt ps i .shard) k ≡ false → e ≡ runEntry ps k i e
-    passed off = entry-off i e (walked-on i counted ∙ off)
+    passed off = entry-off i e (on-counted ps k i counted ∙ off)
 
   -- ---- the pieces that are not walked
 
@@ -106,13 +98,13 @@ module _ (ps : Pieces) (k : ℕ) where
       ∙ sym (entry-off (ps .count + m) (iter (runEntry ps k) e (ps .count + m)) (past-on (ps .count + m) (omega arith)))
       ∙ past-still e m
 
-  pub walked-all : (c : Counters) → iter (runEntry ps k) (begun c) (walked (ps .count)) ≡ execute ps k c
-  unfolding walked execute
-  walked-all c = go (leb 8 (ps .count)) refl
+  pub used-all : (c : Counters) → iter (runEntry ps k) (begun c) (used (ps .count)) ≡ execute ps k c
+  unfolding used execute
+  used-all c = go (ltb (ps .count) 8) refl
     where
-      go : (b : Bool) → leb 8 (ps .count) ≡ b → iter (runEntry ps k) (begun c) (cond b 8 (ps .count)) ≡ iter (runEntry ps k) (begun c) 8
-      go true q = refl
-      go false q =
-          let h = leb-false 8 (ps .count) q in
+      go : (b : Bool) → ltb (ps .count) 8 ≡ b → iter (runEntry ps k) (begun c) (cond b (ps .count) 8) ≡ iter (runEntry ps k) (begun c) 8
+      go true q =
+          let h = ltb-true (ps .count) 8 q in
           let n : ps .count + (8 - ps .count) ≡ 8 = omega arith in
           sym (past-still (begun c) (8 - ps .count)) ∙ ap (iter (runEntry ps k) (begun c)) n
+      go false q = refl

@@ -1,10 +1,9 @@
--- A transaction's pieces run one after the other, each storing in place: where a key's counter stands, what a piece leaves there and gives, and how many pieces
--- there are to run.
+-- A transaction's pieces run one after the other, each storing in place: where a key's counter stands, and what a piece leaves there and gives.
 use Prim.Native.Nat.{ℕ}
-use lib.Dec.{ltb, leb}
+use lib.Dec.{ltb}
 use Rattle.rules.specs.declared.Piece.{Piece}
 use Rattle.rules.specs.Choice.{_if_else_}
-use Rattle.rules.specs.Cluster.{KEYS, PIECES}
+use Rattle.rules.specs.Cluster.{KEYS}
 use Rattle.counters.specs.declared.Counter.{Counter}
 use Rattle.counters.specs.declared.Outcome.{Outcome}
 use Rattle.counters.specs.Effects.{zeroed, effect}
@@ -16,6 +15,3 @@ unfoldable pub runAt : Piece → Counter → Outcome
 runAt p there =
     let x = effect (p .kind) (p .operand) (there if ltb (p .key) KEYS else zeroed) in
     record { counter = x .counter if ltb (p .key) KEYS else there; result = x .result }
-
-unfoldable pub walked : (count : ℕ) → ℕ
-walked count = PIECES if leb PIECES count else count

@@ -6,6 +6,7 @@ use messages::blanks::no_values;
 use rules::cluster::bad_server;
 use rules::cluster::shard_of;
 use rules::sets::members;
+use rules::transaction::used;
 use server::Ran;
 use server::Server;
 use server_form::log::read_log;
@@ -57,7 +58,7 @@ pub fn repeated(s: Server, limit: u32) -> Ran
             if masks::has(g, u) {
                 let held = n.records[u];
                 let ps = held.pieces;
-                let many = counters::walked(ps.count);
+                let many = used(ps.count);
                 let mut values = no_values();
                 let mut i: usize = 0;
                 while i < many {

@@ -18,9 +18,9 @@ use Rattle.rules.specs.Sets.{members}
 use Rattle.graph.specs.Walk.{rowsOf}
 use Rattle.counters.specs.declared.Executed.{Executed}
 use Rattle.counters.specs.Effects.{runEntry}
-use Rattle.counters.specs.InPlace.{walked}
+use Rattle.rules.specs.Pieces.{used}
 use Rattle.counters.proofs.PerKey.{begun}
-use Rattle.counters.proofs.InPlace.{place-lt, walked-le, stored, passed, walked-all}
+use Rattle.counters.proofs.InPlace.{place-lt, used-few, stored, passed, used-all}
 use Rattle.server.specs.declared.Log.{Log}
 use Rattle.server.specs.declared.Server.{Server}
 use Rattle.server.specs.Held.{recordAt, shard, committedAt, committedWord}
@@ -271,9 +271,9 @@ element-copy-out-held :
     μ-loop2
 element-copy-out-held c = search needs
 
-walked-requires :
-    tie.Need-walked-requires Inv-loop μ-loop Inv-loop4 μ-loop4 Inv-loop3 μ-loop3 Inv-loop2 μ-loop2
-walked-requires c κs = search needs
+used-requires :
+    tie.Need-used-requires Inv-loop μ-loop Inv-loop4 μ-loop4 Inv-loop3 μ-loop3 Inv-loop2 μ-loop2
+used-requires c κs = search needs
 
 no-values-requires :
     tie.Need-no-values-requires
@@ -292,7 +292,7 @@ loop4-holds :
 loop4-holds c = (search needs, rw (c .no-values .ensures) (iter-none _ _))
 
 mul-p : tie.Need-mul-p Inv-loop μ-loop Inv-loop4 μ-loop4 Inv-loop3 μ-loop3 Inv-loop2 μ-loop2
-mul-p c = let h = walked-le _ _ (c .before .before .before .walked .ensures) in search needs
+mul-p c = let h = used-few _ _ (c .before .before .before .used .ensures) in search needs
 
 element-copy-out-p :
     tie.Need-element-copy-out-p
@@ -304,7 +304,7 @@ element-copy-out-p :
     μ-loop3
     Inv-loop2
     μ-loop2
-element-copy-out-p c = let h = walked-le _ _ (c .before .before .before .walked .ensures) in search needs
+element-copy-out-p c = let h = used-few _ _ (c .before .before .before .used .ensures) in search needs
 
 place-of-requires :
     tie.Need-place-of-requires
@@ -366,7 +366,7 @@ element-set-from-result :
     μ-loop2
 element-set-from-result c =
     let at-loop4 = c .before .before .before .before .before .before .before .before .before in
-    let few = walked-le _ _ (at-loop4 .before .before .walked .ensures) in
+    let few = used-few _ _ (at-loop4 .before .before .used .ensures) in
     let count = part-count _ _ _ _ _ (at-loop4 .loop4 .inv .1) in
     omega (arith, few .0, count)
 
@@ -402,7 +402,7 @@ loop4-again c =
     let i = at-loop4 .loop4 .i in
     let e : Executed = record { counters = at-loop4 .loop4 .counters; values = at-loop4 .loop4 .values } in
     let old = at-loop4 .loop4 .inv .1 in
-    let few = walked-le _ _ (at-loop4 .before .before .walked .ensures) in
+    let few = used-few _ _ (at-loop4 .before .before .used .ensures) in
     let counted : i < ps .count = omega (arith, few .1) in
     let keys = part-keys ps k (at-loop3 .loop3 .counters) i e old (going-keys (at-loop2 .loop2 .inv .2) (at-loop3 .before .before .next-group .result) u (whole n (at-loop3 .loop3 .counters) (at-loop3 .loop3 .log)) (at-loop3 .loop3 .inv .2)) in (
       search needs,
@@ -497,9 +497,9 @@ loop3-again c =
       ⊎-elim
           (λ x.
           let last : x .5 .i ≡ x .3 .result = omega (arith, x .5 .inv .0, x .6 .left) in
-          let end : x .5 .i ≡ walked (ps .count) = last ∙ x .3 .ensures in
+          let end : x .5 .i ≡ used (ps .count) = last ∙ x .3 .ensures in
           rw (x .8, x .9, x .10)
-          (one-stored n u k own (x .5 .counters) (x .5 .values) (x .5 .inv .1 ∙ ap (iter (runEntry ps k) (begun (at-loop3 .loop3 .counters))) end ∙ walked-all ps k (at-loop3 .loop3 .counters))
+          (one-stored n u k own (x .5 .counters) (x .5 .values) (x .5 .inv .1 ∙ ap (iter (runEntry ps k) (begun (at-loop3 .loop3 .counters))) end ∙ used-all ps k (at-loop3 .loop3 .counters))
           ∙ ap (λ (y : Server). runOne y u) old
           ∙ sym (over-with runOne n₀ g u (sym (c .before .has .ensures) ∙ x .0 .taken))))
           (λ x. rw (x .1, x .2, x .3) (old ∙ sym (over-without runOne n₀ g u (sym (c .before .has .ensures) ∙ x .0 .left))))
@@ -599,7 +599,7 @@ repeated-spec =
     has-requires
     mul-held
     element-copy-out-held
-    walked-requires
+    used-requires
     no-values-requires
     loop4-holds
     mul-p
