@@ -244,7 +244,7 @@ class Thin:
         self.others = [Parameter(name, kind, 1 + slices.index(name) if name in slices else None, self.lifetimes) for name, kind in others]
         self.output = next((j for j, p in enumerate(self.others) if p.written), None)
         self.answer = kind_of(f.answer, 'P')
-        body = re.search(rf'\bfn {self.name}\b.*?\n\{{\n(.*?)\n\}}', source_of('station', f.path), re.S).group(1)
+        body = body_of(f)
         calls = re.findall(r'((?:\w+::)+\w+)\(', body)
         self.work = Callee(calls[0], 'work')
         self.given = [self.s] + [p.given for p in self.others]
@@ -261,6 +261,15 @@ class Thin:
             self.callees += [callee for callee, _ in self.asked]
 
 
+def lent_functions():
+    """The functions of `station` that are lent a state."""
+    return [f for f in public_functions() if f.crate == 'station' and f.params and re.match(r'&(mut )?[A-Z]', f.params[0][1])]
+
+
+def body_of(f):
+    return re.search(rf"\bfn {f.path.split('::')[-1]}\b.*?\n\{{\n(.*?)\n\}}", source_of('station', f.path), re.S).group(1)
+
+
 def thin_functions():
-    """The exported functions that are lent a state."""
-    return [Thin(f) for f in public_functions() if f.crate == 'station' and f.exported and f.params and re.match(r'&(mut )?[A-Z]', f.params[0][1])]
+    """Those that do the work by value."""
+    return [Thin(f) for f in lent_functions() if '::' in body_of(f)]

@@ -30,7 +30,7 @@ use Rattle.server.specs.declared.Ran.{Ran}
 use Rattle.server.specs.declared.Server.{Server}
 use Rattle.server.specs.Held.{recordAt, shard, committedWord, ranWord, append}
 use Rattle.server.specs.Form.{formed}
-use Rattle.server.specs.Run.{depsOf, nextRun, withResults, stored, runOne, runGroup, run, turns, ranFrom, ranNone}
+use Rattle.server.specs.Run.{depsOf, nextRun, withResults, stored, runOne, runGroup, run, runAll, turns, ranFrom, ranNone}
 use Rattle.server.proofs.FormParts.{formed-parts}
 use Rattle.server.proofs.LogGrows.{lined-size}
 use Rattle.server.proofs.RunGroups.{over-id, over-count, group-id, group-long, group-deps, group-committed-word, group-count, group-ran}
@@ -69,10 +69,14 @@ up-to form limit s f z e =
     ∙ limited form limit s
     ∙ ap (λ (b : Bool). cond b (ranFrom s (turns limit s)) (ranNone s 13)) f
 
--- a run is one of them
+-- a run is one of them, and runs until 0 are 64
 pub run-once : (s : Server) → ranUpTo 1 s ≡ run s
 unfolding ranUpTo run
 run-once s = ap (λ (r : Ran). cond (formed s) r (ranNone s 13)) (sym (turn-once s))
+
+pub run-until : (s : Server) → ranUpTo 64 s ≡ runAll s
+unfolding ranUpTo runAll
+run-until s = refl
 
 -- ---- between two runs
 

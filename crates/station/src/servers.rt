@@ -3,6 +3,7 @@ ghost use mathlib.Core.Path.{_≡_};
 ghost use Rattle.door.specs.Exchange.{take};
 ghost use Rattle.server.specs.Host.{fresh, wanted};
 ghost use Rattle.server.specs.Run.{run, runAll};
+ghost use Rattle.server_run.specs.Limited.{ranUpTo};
 ghost use Rattle.door.specs.Told.{counted};
 ghost use Rattle.door.specs.Readings.{counter, logEntry, result};
 use door::Answer;
@@ -38,15 +39,22 @@ pub extern "C" fn drobulets_server_take(s: &mut Server, input: &[u8], output: &m
     answer
 }
 
+// At most `limit` runs. Both exported functions pass their server on to this one, so the work has one caller, and the compiler lays it in here with no copy of its own.
+pub fn runs(s: &mut Server, limit: u32) -> Counted
+    ensures { λ r. ⌜ (r ≡ counted (ranUpTo limit (now (s .entry)))) × (now (s .exit) ≡ ranUpTo limit (now (s .entry)) .server) ⌝ }
+{
+    let o = server_run::running::repeated(*s, limit);
+    let answer = door::told::ran_counted(o);
+    *s = door::told::ran_server(o);
+    answer
+}
+
 // One run.
 #[no_mangle]
 pub extern "C" fn drobulets_server_run(s: &mut Server) -> Counted
     ensures { λ r. ⌜ (r ≡ counted (run (now (s .entry)))) × (now (s .exit) ≡ run (now (s .entry)) .server) ⌝ }
 {
-    let o = server_run::run(*s);
-    let answer = door::told::ran_counted(o);
-    *s = door::told::ran_server(o);
-    answer
+    runs(s, 1)
 }
 
 // Runs until nothing is ready.
@@ -54,10 +62,7 @@ pub extern "C" fn drobulets_server_run(s: &mut Server) -> Counted
 pub extern "C" fn drobulets_server_run_all(s: &mut Server) -> Counted
     ensures { λ r. ⌜ (r ≡ counted (runAll (now (s .entry)))) × (now (s .exit) ≡ runAll (now (s .entry)) .server) ⌝ }
 {
-    let o = server_run::run_all(*s);
-    let answer = door::told::ran_counted(o);
-    *s = door::told::ran_server(o);
-    answer
+    runs(s, 64)
 }
 
 // The wanted set.

@@ -1,6 +1,6 @@
 -- `server_run::run_all` meets its contract. Assumes nothing.
-use Rattle.server.specs.Run.{runAll}
-use Rattle.server_run.specs.Limited.{ranUpTo}
+use mathlib.Core.Path.{_∙_}
+use Rattle.server_run.proofs.Turning.{run-until}
 use borrow.Author.Needs.{needs}
 use Rattle.server_run.proofs.run_all.Statement.{statement}
 use Rattle.server_run.proofs.run_all.Tie as tie
@@ -9,8 +9,7 @@ repeated-requires : tie.Need-repeated-requires
 repeated-requires c κs = search needs
 
 returns : tie.Need-returns
-unfolding runAll ranUpTo
-returns c = c .repeated .ensures
+returns c = c .repeated .ensures ∙ run-until (c .before .args .s)
 
 pub run-all-spec : {M : Type 1} → statement M
 run-all-spec = tie.close (tie.spec repeated-requires returns)
