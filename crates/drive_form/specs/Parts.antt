@@ -1,8 +1,8 @@
 -- The parts of a drive's form, each over the fields that it looks at, and the counted answers as a word of servers. At a drive's own fields they are the definitions of `drive`, by the laws of proofs/Parts.
-use Prim.Native.Nat.{ℕ}
+use Prim.Native.Nat.{ℕ, _+_, _*_, _/_, _^_}
 use mathlib.Core.Bool.{Bool, true, cond, not, _&&_, _||_}
 use lib.Dec.{leb, eqb}
-use Rattle.masks.specs.Bits.{has, none, insert, within}
+use Rattle.masks.specs.Bits.{has, none, insert, union, both, within}
 use Rattle.masks.specs.Folds.{allBelow, maskOf}
 use Rattle.rules.specs.Choice.{_if_else_}
 use Rattle.rules.specs.Flags.{there, implies}
@@ -35,6 +35,14 @@ abbrev pub setKept : (t touched phase : ℕ) → MaybeSet → Bool
 setKept t touched p v = there (v .some) && not (badSet t touched (v .set)) if leb 2 p else not (there (v .some))
 
 -- ---- whether the servers of the word w decide
+
+-- w and, where shard k is touched, its three servers
+abbrev pub withShard : (touched k w : ℕ) → ℕ
+withShard touched k w = cond (has touched k) (insert (insert (insert w (3 * k)) (3 * k + 1)) (3 * k + 2)) w
+
+-- at the first server of a shard: two at least of its three are in w
+unfoldable pub pairs : ℕ → ℕ
+pairs w = union (union (both w (w / 2 ^ 1)) (both w (w / 2 ^ 2))) (both (w / 2 ^ 1) (w / 2 ^ 2))
 
 -- two at least of three
 abbrev pub twoOf : Bool → Bool → Bool → Bool
