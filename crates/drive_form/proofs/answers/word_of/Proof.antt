@@ -1,7 +1,7 @@
--- `drive_decide::words::word_of` meets its contract: a word is given where one is held. Assumes nothing.
+-- `drive_form::answers::word_of` meets its contract: a word is given where one is held. Assumes nothing.
 use borrow.Author.Needs.{needs}
-use Rattle.drive_decide.proofs.words.word_of.Statement.{statement}
-use Rattle.drive_decide.proofs.words.word_of.Tie as tie
+use Rattle.drive_form.proofs.answers.word_of.Statement.{statement}
+use Rattle.drive_form.proofs.answers.word_of.Tie as tie
 
 has-word-requires : tie.Need-has-word-requires
 has-word-requires c κs = search needs
