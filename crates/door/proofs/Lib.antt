@@ -1,2 +1,3 @@
 pub mod Unwritten
 pub mod Stored
+pub mod Unheard
