@@ -1,3 +1,2 @@
 pub mod Unwritten
 pub mod Stored
-pub mod Unheard

@@ -65,17 +65,19 @@ fn refused(refusal: u32) -> Answer
     }
 }
 
-// A reply to a drive. Of bytes that do not decode the drive hears the blank message, which it refuses.
+// A reply to a drive.
 pub fn take_reply(d: Drive, input: &[u8]) -> Moved
     ensures { λ r. ⌜ r ≡ takeReply d (now (input .entry)) ⌝ }
 {
     let m = codec::decode(input);
-    let v = drive_step::hear(d, m.message);
-    let drive = v.drive;
-    Moved {
-        refusal: first(m.refusal, v.refusal),
-        drive: drive,
+    let unread = m.refusal != 0;
+    if unread {
+        return Moved {
+            refusal: m.refusal,
+            drive: d,
+        };
     }
+    drive_step::hear(d, m.message)
 }
 
 // The message due to a drive's servers.
