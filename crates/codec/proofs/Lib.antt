@@ -1,3 +1,4 @@
 pub mod ReadWhole
+pub mod ByKind
 pub mod WriteWhole
 pub mod EncodeWhole

@@ -1,2 +1,3 @@
 pub mod Sections
+pub mod ByKind
 pub mod Answers

@@ -1,7 +1,9 @@
 -- A message's fields after its code, in two sections: the front, which is T, server, ballot and promise, and the rest. Many messages have no rest.
 use mathlib.Core.Bool.{Bool, _||_}
-use Prim.Native.Nat.{ℕ}
+use mathlib.Core.List.{List, [], _∷_, _++_}
+use Prim.Native.Nat.{ℕ, _+_}
 use Rattle.xdr.specs.Form.{Form, u32, u64, _then_, when}
+use Rattle.xdr.proofs.Windows.{cost}
 use Rattle.rules.specs.declared.Pieces.{Pieces}
 use Rattle.rules.specs.declared.Set.{Set}
 use Rattle.rules.specs.declared.MaybeWord.{MaybeWord}
@@ -21,6 +23,10 @@ Front = ((ℕ × ℕ) × ℕ) × ℕ
 unfoldable pub front : Shape → Form Front
 front h = u32 then when 0 u32 (h .server) then when 0 u32 (h .ballot) then when 0 u32 (h .promise)
 
+-- how many bytes the front takes
+abbrev pub frontLength : Shape → ℕ
+frontLength h = ((4 + cost (h .server) 4) + cost (h .ballot) 4) + cost (h .promise) 4
+
 abbrev pub Rest : Type 0
 Rest = (((Pieces × Set) × ℕ) × (MaybeWord × MaybeVote)) × Values
 
@@ -39,12 +45,6 @@ noRest = ((((noPieces, noSet), 0), (noWord, noVote)), noValues)
 unfoldable pub long : Shape → Bool
 long h = h .pieces || h .set || h .word || h .prepared || h .values
 
-abbrev pub frontOf : Message → Front
-frontOf m = (((m .t, m .server), m .ballot), m .promise)
-
-abbrev pub restOf : Message → Rest
-restOf m = ((((m .pieces, m .set), m .word), (m .arrival, m .accepted)), m .values)
-
 -- a message from its code, front and rest
 abbrev pub joined : ℕ → Front → Rest → Message
 joined k f x =
@@ -61,3 +61,8 @@ joined k f x =
       accepted = x .0 .1 .1;
       values = x .1;
     }
+
+-- sections in a row
+abbrev pub cat : List (List ℕ) → List ℕ
+cat [] = []
+cat (s ∷ ss) = s ++ cat ss

@@ -1,40 +1,52 @@
-// A message, written: the header, the front, and the rest where the code has some of it, each in the part after the last.
+// A message, written by its sections, each in the part after the last. What is refused is known before the first byte is written.
 ghost use mathlib.Core.Path.{_≡_};
-ghost use mathlib.Core.Bool.{true, not, _&&_, _||_};
-ghost use Prim.Native.Nat.{_+_, _≤_, _<_};
+ghost use mathlib.Core.Bool.{false, _&&_};
+ghost use Prim.Native.Nat.{_+_, _*_, _≤_};
 ghost use lib.Dec.{ltb};
-ghost use lib.ListN.{length, take};
-ghost use Rattle.xdr.specs.Over.{over, Put};
-ghost use Rattle.wire.specs.Bytes.{code, body, bodyOf};
-ghost use Rattle.codec.specs.Sections.{front, rest, restOf};
-ghost use Rattle.codec.specs.Answers.{answer, delivered};
+ghost use lib.ListN.{length};
+ghost use Rattle.xdr.specs.Over.{Put};
+ghost use Rattle.xdr.proofs.Windows.{cost};
+ghost use Rattle.wire.specs.Bytes.{code};
+ghost use Rattle.codec.specs.Sections.{front, frontLength, cat};
+ghost use Rattle.codec.specs.ByKind.{askedShape, answeredShape, bareSections, askedSections, answeredSections};
+ghost use Rattle.codec.specs.Answers.{answer, sent};
 use crate::Encoded;
-use parts::put_arrays::put_pieces_if;
+use crate::shapes::answered_shape;
+use crate::shapes::asked_shape;
+use parts::put_arrays::put_piece_list;
 use parts::put_arrays::put_values_if;
 use parts::put_parts::put_prepared_if;
 use parts::put_parts::put_set_if;
 use parts::put_parts::put_u32_at;
 use parts::put_parts::put_u32_if;
 use parts::put_parts::put_u64_if;
-use wire::Message;
+use rules::MaybeVote;
+use rules::MaybeWord;
+use rules::Piece;
+use rules::Set;
+use rules::Values;
 use wire::Shape;
 
-// 12: the code is unknown, or a count that it has is above 8.
-pub fn unwritable(h: Shape, pieces: u32, values: u32) -> bool
-    ensures { λ r. ⌜ r ≡ (not (h .known) || (h .pieces && ltb 8 pieces) || (h .values && ltb 8 values)) ⌝ }
+// Why nothing is written: the code is unknown or a count is above 8; the output is shorter than the message.
+pub const UNWRITABLE: u32 = 12;
+
+const SHORT: u32 = 14;
+
+pub fn refused(refusal: u32) -> Encoded
+    ensures { λ r. ⌜ r ≡ record { refusal = refusal; length = 0 } ⌝ }
 {
-    !h.known | (h.pieces & (pieces > 8)) | (h.values & (values > 8))
+    Encoded { refusal, length: 0 }
 }
 
 // The header is the code alone.
-pub fn put_header(out: &mut [u8], k: u32) -> usize
+fn put_header(out: &mut [u8], k: u32) -> usize
     requires { ⌜ 4 ≤ length (now out) ⌝ }
     ensures { λ r. ⌜ Put 0 (code .put k) (now (out .entry)) r (now (out .exit)) ⌝ }
 {
     put_u32_at(out, 0, k)
 }
 
-pub fn put_front(
+fn put_front(
     out: &mut [u8],
     at: usize,
     h: Shape,
@@ -52,58 +64,108 @@ pub fn put_front(
     put_u32_if(out, c, h.promise, promise)
 }
 
-fn put_rest(out: &mut [u8], at: usize, h: Shape, m: Message) -> usize
-    requires { ⌜ at + length (rest h .put (restOf m)) ≤ length (now out) ⌝ }
-    requires { ⌜ (h .pieces ≡ true → m .pieces .count ≤ 8) ⌝ }
-    requires { ⌜ (h .values ≡ true → m .values .count ≤ 8) ⌝ }
-    ensures { λ r. ⌜ Put at (rest h .put (restOf m)) (now (out .entry)) r (now (out .exit)) ⌝ }
+// n bytes, or none.
+fn cost(has: bool, n: usize) -> usize
+    ensures { λ r. ⌜ (r ≡ cost has n) × (r ≤ n) ⌝ }
 {
-    let pieces = m.pieces;
-    let set = m.set;
-    let arrival = m.arrival;
-    let accepted = m.accepted;
-    let values = m.values;
-    let a = put_pieces_if(out, at, h.pieces, pieces);
-    let b = put_set_if(out, a, h.set, set);
-    let c = put_u64_if(out, b, h.word, m.word);
-    let d = put_prepared_if(out, c, h.prepared, arrival, accepted);
-    put_values_if(out, d, h.values, values)
+    if has {
+        return n;
+    }
+    0
 }
 
-// The front, and then the rest.
-pub fn put_body(out: &mut [u8], at: usize, h: Shape, m: Message) -> usize
-    requires { ⌜ at + length (body h .put (bodyOf m)) ≤ length (now out) ⌝ }
-    requires { ⌜ (h .pieces ≡ true → m .pieces .count ≤ 8) ⌝ }
-    requires { ⌜ (h .values ≡ true → m .values .count ≤ 8) ⌝ }
-    ensures { λ r. ⌜ Put at (body h .put (bodyOf m)) (now (out .entry)) r (now (out .exit)) ⌝ }
+fn front_length(h: Shape) -> usize
+    ensures { λ r. ⌜ (r ≡ frontLength h) × (r ≤ 16) ⌝ }
 {
-    let a = put_front(out, at, h, m.t, m.server, m.ballot, m.promise);
-    put_rest(out, a, h, m)
+    4 + cost(h.server, 4) + cost(h.ballot, 4) + cost(h.promise, 4)
 }
 
-fn copy_front(out: &mut [u8], s: &[u8], n: usize)
-    requires { ⌜ (n ≤ length (now s)) × (n ≤ length (now out)) ⌝ }
-    ensures { λ _. ⌜ now (out .exit) ≡ over (take n (now (s .entry))) (now (out .entry)) ⌝ }
+// An optional word, and an optional ballot and set.
+fn prepared_length(arrived: bool, voted: bool) -> usize
+    ensures { λ r. ⌜ (r ≡ (4 + cost arrived 8) + (4 + cost voted 36)) × (r ≤ 52) ⌝ }
 {
-    let mut i = 0;
-    while i < n {
-        out[i] = s[i];
-        i += 1;
+    (4 + cost(arrived, 8)) + (4 + cost(voted, 36))
+}
+
+pub fn bare(out: &mut [u8], code: u32, t: u32) -> Encoded
+    ensures { λ r. ⌜ (r ≡ answer (sent false (cat (bareSections code t)) (now (out .entry)))) × (now (out .exit) ≡ sent false (cat (bareSections code t)) (now (out .entry)) .buffer) ⌝ }
+{
+    if out.len() < 8 {
+        return refused(SHORT);
+    }
+    let a = put_header(out, code);
+    put_u32_at(out, a, t);
+    Encoded {
+        refusal: 0,
+        length: 8,
     }
 }
 
-// The first n bytes of s at the front of the output, or 14 where it is shorter.
-pub fn deliver(out: &mut [u8], s: &[u8], n: usize) -> Encoded
-    requires { ⌜ (n ≤ length (now s)) × (n < 4294967296) ⌝ }
-    ensures { λ r. ⌜ (r ≡ answer (delivered (now (s .entry)) n (now (out .entry)))) × (now (out .exit) ≡ delivered (now (s .entry)) n (now (out .entry)) .buffer) ⌝ }
+pub fn asked(
+    out: &mut [u8],
+    code: u32,
+    t: u32,
+    ballot: u32,
+    list: [Piece; 8],
+    count: u32,
+    set: Set,
+) -> Encoded
+    ensures { λ r. ⌜ (r ≡ answer (sent (ltb 8 count) (cat (askedSections (askedShape code) code t ballot list count set)) (now (out .entry))))
+        × (now (out .exit) ≡ sent (ltb 8 count) (cat (askedSections (askedShape code) code t ballot list count set)) (now (out .entry)) .buffer) ⌝ }
 {
+    if 8 < count {
+        return refused(UNWRITABLE);
+    }
+    let h = asked_shape(code);
+    let k = count as usize;
+    let n = 4 + front_length(h) + (4 + k * 16) + cost(h.set, 32);
     if out.len() < n {
-        return Encoded {
-            refusal: 14,
-            length: 0,
-        };
+        return refused(SHORT);
     }
-    copy_front(out, s, n);
+    let a = put_header(out, code);
+    let b = put_front(out, a, h, t, 0, ballot, 0);
+    let c = put_u32_at(out, b, count);
+    let d = put_piece_list(out, c, list, k);
+    put_set_if(out, d, h.set, set);
+    let length = n as u32;
+    Encoded { refusal: 0, length }
+}
+
+pub fn answered(
+    out: &mut [u8],
+    code: u32,
+    t: u32,
+    server: u32,
+    ballot: u32,
+    promise: u32,
+    word: u64,
+    arrival: MaybeWord,
+    accepted: MaybeVote,
+    values: Values,
+) -> Encoded
+    ensures { λ r. ⌜ (r ≡ answer (sent (answeredShape code .values && ltb 8 (values .count)) (cat (answeredSections (answeredShape code) code t server ballot promise word arrival accepted values)) (now (out .entry))))
+        × (now (out .exit) ≡ sent (answeredShape code .values && ltb 8 (values .count)) (cat (answeredSections (answeredShape code) code t server ballot promise word arrival accepted values)) (now (out .entry)) .buffer) ⌝ }
+{
+    let h = answered_shape(code);
+    let unwritable = h.values & (8 < values.count);
+    if unwritable {
+        return refused(UNWRITABLE);
+    }
+    let k = values.count as usize;
+    let prepared = prepared_length(arrival.some != 0, accepted.some != 0);
+    let n = 4
+        + front_length(h)
+        + cost(h.word, 8)
+        + cost(h.prepared, prepared)
+        + cost(h.values, 4 + k * 8);
+    if out.len() < n {
+        return refused(SHORT);
+    }
+    let a = put_header(out, code);
+    let b = put_front(out, a, h, t, server, ballot, promise);
+    let c = put_u64_if(out, b, h.word, word);
+    let d = put_prepared_if(out, c, h.prepared, arrival, accepted);
+    put_values_if(out, d, h.values, values);
     let length = n as u32;
     Encoded { refusal: 0, length }
 }

@@ -7,11 +7,6 @@ use decoding::get_front;
 use decoding::get_header;
 use decoding::long_message;
 use decoding::short_message;
-use encoding::deliver;
-use encoding::put_body;
-use encoding::put_front;
-use encoding::put_header;
-use encoding::unwritable;
 use messages::codes::shape_of;
 use shapes::has_rest;
 use wire::Decoded;
@@ -20,7 +15,7 @@ use xdr::Cursor;
 
 mod decoding; // decoding.rt: a message read by its sections
 mod encoding; // encoding.rt: a message written by its sections
-mod shapes; // shapes.rt: whether a message has more than its plain numbers
+mod shapes; // shapes.rt: the kinds of messages
 
 // What encoding answers: the refusal or 0, and how many bytes the message takes, 0 on a refusal.
 #[repr(C)]
@@ -45,31 +40,43 @@ pub fn decode(bytes: &[u8]) -> Decoded
     short_message(bytes.len(), code, f)
 }
 
-// The message's bytes at the front of the output, built in a cleared buffer and then copied; or a refusal, and the output as it was.
+// The message's bytes at the front of the output; or a refusal, and the output as it was.
 pub fn encode(message: Message, out: &mut [u8]) -> Encoded
     ensures { λ r. ⌜ (r ≡ answer (encode message (now (out .entry)))) × (now (out .exit) ≡ encode message (now (out .entry)) .buffer) ⌝ }
 {
-    let h = shape_of(message.code);
-    if unwritable(h, message.pieces.count, message.values.count) {
-        return Encoded {
-            refusal: 12,
-            length: 0,
-        };
+    let code = message.code;
+    if shapes::bare(code) {
+        return encoding::bare(out, code, message.t);
     }
-    let mut buffer = [0u8; 176];
-    let a = put_header(&mut buffer, message.code);
-    if has_rest(h) {
-        let n = put_body(&mut buffer, a, h, message);
-        return deliver(out, &buffer, n);
+    if shapes::asked(code) {
+        let list = message.pieces.list;
+        let set = message.set;
+        return encoding::asked(
+            out,
+            code,
+            message.t,
+            message.ballot,
+            list,
+            message.pieces.count,
+            set,
+        );
     }
-    let n = put_front(
-        &mut buffer,
-        a,
-        h,
-        message.t,
-        message.server,
-        message.ballot,
-        message.promise,
-    );
-    deliver(out, &buffer, n)
+    if shapes::answered(code) {
+        let arrival = message.arrival;
+        let accepted = message.accepted;
+        let values = message.values;
+        return encoding::answered(
+            out,
+            code,
+            message.t,
+            message.server,
+            message.ballot,
+            message.promise,
+            message.word,
+            arrival,
+            accepted,
+            values,
+        );
+    }
+    encoding::refused(encoding::UNWRITABLE)
 }

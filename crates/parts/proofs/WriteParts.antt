@@ -1,14 +1,18 @@
 -- What writers in a row show of the part that they write together. Assumes nothing.
 use mathlib.Core.Path.{_≡_}
-use mathlib.Core.List.{List, _++_}
+use mathlib.Core.List.{List, _++_, append-nil}
+use mathlib.Core.Bool.{Bool, true}
 use Prim.Native.Nat.{ℕ, _+_, _*_, _≤_, _<_}
-use native.Mathlib.Nat.{suc-mul}
-use native.Mathlib.Numerals.{add-one}
+use native.Mathlib.Nat.{mul-le-mul-right}
+use native.Mathlib.Decide.{decLt}
 use native.Mathlib.Omega.{arith}
-use lib.ListN.{length, take, getD, length-append}
+use lib.Dec.{ltb}
+use lib.ListN.{length, take, getD, length-append, length-take}
+use lib.Seq.{take-all, getD-take, length-take-le}
+use borrow.Author.Tests.{lt-ltb, le-ltb}
 use Rattle.xdr.specs.Word.{be, be-length}
-use Rattle.xdr.specs.Over.{Put, put-put, put-by}
-use Rattle.xdr.specs.Array.{flat-first, flat-put}
+use Rattle.xdr.specs.Over.{Put, put-put, room-right}
+use Rattle.xdr.specs.Array.{flat-length, flat-more}
 use Rattle.xdr.specs.Form.{Form, u32, u64, int, flag as bool, when, flat}
 use Rattle.rules.specs.declared.Piece.{Piece}
 use Rattle.rules.specs.declared.Pieces.{Pieces}
@@ -39,6 +43,10 @@ module _ (at : ℕ) (z : List ℕ) where
       let e₂ = put-put at (s ++ k) d z (omega arith) e₁ q₃ in
       put-put at (s ++ k ++ d) (int .put (p .operand)) z (omega arith) e₂ q₄
 
+  -- the room for what a flag that is known says is there
+  pub flag-room : {A : Type 0} (d : A) (F : Form A) (has : Bool) (x : A) {n : ℕ} → length (F .put x) ≡ n → has ≡ true → at + length (when d F has .put x) ≤ length z → at + n ≤ length z
+  flag-room d F has x l h k = omega (arith, rw h at k)
+
   pub value-put : (v : Value) {a r : ℕ} {z₁ z₂ : List ℕ} → at + 8 ≤ length z
       → Put at (int .put (v .value)) z a z₁ → Put a (bool .put (there (v .kept))) z₁ r z₂ → Put at (value .put v) z r z₂
   unfolding value
@@ -64,16 +72,37 @@ module _ (at : ℕ) (z : List ℕ) where
       let p : Put a (when 0 u32 b .put (v .ballot) ++ when noSet set4 b .put (v .set)) z₁ r z₃ = put-put a _ _ z₁ (omega arith) q₂ q₃ in
       rw (both-put b (v .ballot) (v .set)) (put-put at (bool .put b) _ z (omega arith) q₁ p)
 
--- ---- one more entry of an array, each w bytes long
+-- ---- the first n entries of an array, one by one, each w bytes long
 
-module _ {A : Type 0} (F : Form A) (w : ℕ) (wide : (a : A) → length (F .put a) ≡ w) where
-  pub entry-put : (xs : List A) (i : ℕ) (d : A) (at : ℕ) (z : List ℕ) {a : ℕ} {z₁ : List ℕ} {r : ℕ} {z₂ : List ℕ} → i < length xs → at + (i + 1) * w ≤ length z → a ≡ at + i * w
-      → Put at (flat F (take i xs)) z a z₁ → Put a (F .put (getD xs i d)) z₁ r z₂ → (r ≡ at + (i + 1) * w) × Put at (flat F (take (i + 1) xs)) z r z₂
-  entry-put xs i d at z {a} {r = r} h k e p q =
-      let l = flat-first F w wide xs i (omega arith) in
-      let m : (i + 1) * w ≡ i * w + w = rw (add-one, suc-mul) in
-      let n = put-by (wide (getD xs i d)) q in
-      (omega arith, flat-put F xs i d at z h (omega arith) p q)
+module _ {A : Type 0} (F : Form A) (w : ℕ) (wide : (a : A) → length (F .put a) ≡ w) (d : A) (xs : List A) (n : ℕ) (many : n ≤ length xs) where
+  -- the next one is there while it is below n
+  entry-is : (i : ℕ) → flat F (take (i + 1) (take n xs)) ≡ flat F (take i (take n xs)) ++ when d F (ltb i n) .put (getD xs i d)
+  entry-is i = go (length-take-le n xs many) (decLt i n)
+    where
+      go : length (take n xs) ≡ n → Dec (i < n) → flat F (take (i + 1) (take n xs)) ≡ flat F (take i (take n xs)) ++ when d F (ltb i n) .put (getD xs i d)
+      go l (yes h) = rw (lt-ltb i n h, flat-more F (take n xs) i d (omega arith), getD-take n xs i d h)
+      go l (no h) = rw (le-ltb i n (omega (arith, h)), take-all (i + 1) (take n xs) (omega (arith, h)), take-all i (take n xs) (omega (arith, h)), append-nil)
+
+  module _ (at : ℕ) (z : List ℕ) (room : at + n * w ≤ length z) where
+    room-for : (i : ℕ) → at + length (flat F (take i (take n xs))) ≤ length z
+    room-for i =
+        let l = flat-length F w wide (take i (take n xs)) in
+        let k : length (take i (take n xs)) ≤ n = omega (arith, length-take i (take n xs), length-take-le n xs many) in
+        let m = mul-le-mul-right w k in
+        omega arith
+
+    -- the first i of the n were written
+    abbrev pub Entries : ℕ → ℕ → List ℕ → Type 0
+    Entries i a z₁ = Put at (flat F (take i (take n xs))) z a z₁
+
+    pub entry-room : (i : ℕ) {a : ℕ} {z₁ : List ℕ} → Entries i a z₁ → length z₁ ≡ length z → a + length (when d F (ltb i n) .put (getD xs i d)) ≤ length z₁
+    entry-room i p e = room-right at (flat F (take i (take n xs))) (when d F (ltb i n) .put (getD xs i d)) z (rw (← entry-is i) (room-for (i + 1))) p e
+
+    pub entry-put : (i : ℕ) {a : ℕ} {z₁ : List ℕ} {r : ℕ} {z₂ : List ℕ} → Entries i a z₁ → Put a (when d F (ltb i n) .put (getD xs i d)) z₁ r z₂ → Entries (i + 1) r z₂
+    entry-put i p q = rw (entry-is i) (put-put at (flat F (take i (take n xs))) (when d F (ltb i n) .put (getD xs i d)) z (room-for i) p q)
+
+    pub entries-all : (i : ℕ) {r : ℕ} {z₁ : List ℕ} → n ≤ i → Entries i r z₁ → Put at (flat F (take n xs)) z r z₁
+    entries-all i h p = rw (take-all i (take n xs) (omega (arith, length-take-le n xs many))) at p
 
 -- ---- a count, and then the entries before it
 

@@ -3,8 +3,8 @@ ghost use mathlib.Core.Path.{_≡_};
 ghost use mathlib.Core.Bool.{true};
 ghost use Prim.Native.Nat.{_+_, _*_, _≤_};
 ghost use lib.ListN.{length, take};
-ghost use Rattle.rules.specs.Pieces.{noPieces};
-ghost use Rattle.rules.specs.Values.{noValues};
+ghost use Rattle.rules.specs.Pieces.{noPiece, noPieces};
+ghost use Rattle.rules.specs.Values.{noValue, noValues};
 ghost use Rattle.xdr.specs.Form.{flat, when};
 ghost use Rattle.xdr.specs.Over.{Put};
 ghost use Rattle.wire.specs.Parts.{piece, pieces, value, values};
@@ -16,19 +16,29 @@ use rules::Pieces;
 use rules::Value;
 use rules::Values;
 
-// Each field is read where it is written: the compiler then stores it as one word.
+pub fn put_piece_if(out: &mut [u8], at: usize, has: bool, p: Piece) -> usize
+    requires { ⌜ at + length (when noPiece piece has .put p) ≤ length (now out) ⌝ }
+    ensures { λ r. ⌜ Put at (when noPiece piece has .put p) (now (out .entry)) r (now (out .exit)) ⌝ }
+{
+    if has {
+        let a = put_u32_at(out, at, p.shard);
+        let b = put_u32_at(out, a, p.key);
+        let c = put_u32_at(out, b, p.kind);
+        return put_i32_at(out, c, p.operand);
+    }
+    at
+}
+
+// The loop goes to the constant: the compiler writes its turns out, and then reads each entry where it stands and copies no list.
 pub fn put_piece_list(out: &mut [u8], at: usize, v: [Piece; 8], n: usize) -> usize
     requires { ⌜ (n ≤ 8) × (at + n * 16 ≤ length (now out)) ⌝ }
     ensures { λ r. ⌜ Put at (flat piece (take n v)) (now (out .entry)) r (now (out .exit)) ⌝ }
 {
     let mut a = at;
     let mut i = 0;
-    while i < n {
-        let b = put_u32_at(out, a, v[i].shard);
-        let c = put_u32_at(out, b, v[i].key);
-        let d = put_u32_at(out, c, v[i].kind);
+    while i < 8 {
         let p = v[i];
-        a = put_i32_at(out, d, p.operand);
+        a = put_piece_if(out, a, i < n, p);
         i += 1;
     }
     a
@@ -48,16 +58,26 @@ pub fn put_pieces_if(out: &mut [u8], at: usize, has: bool, v: Pieces) -> usize
     at
 }
 
+pub fn put_value_if(out: &mut [u8], at: usize, has: bool, v: Value) -> usize
+    requires { ⌜ at + length (when noValue value has .put v) ≤ length (now out) ⌝ }
+    ensures { λ r. ⌜ Put at (when noValue value has .put v) (now (out .entry)) r (now (out .exit)) ⌝ }
+{
+    if has {
+        let a = put_i32_at(out, at, v.value);
+        return put_bool_at(out, a, v.kept != 0);
+    }
+    at
+}
+
 pub fn put_value_list(out: &mut [u8], at: usize, v: [Value; 8], n: usize) -> usize
     requires { ⌜ (n ≤ 8) × (at + n * 8 ≤ length (now out)) ⌝ }
     ensures { λ r. ⌜ Put at (flat value (take n v)) (now (out .entry)) r (now (out .exit)) ⌝ }
 {
     let mut a = at;
     let mut i = 0;
-    while i < n {
+    while i < 8 {
         let p = v[i];
-        let b = put_i32_at(out, a, p.value);
-        a = put_bool_at(out, b, v[i].kept != 0);
+        a = put_value_if(out, a, i < n, p);
         i += 1;
     }
     a

@@ -1,56 +1,20 @@
--- Four stores put the four bytes at the front. Assumes nothing.
-use native.Mathlib.Omega.{arith}
-use lib.ListN.{length-set}
-use lib.Seq.{sets-eq}
-use Rattle.xdr.specs.Word.{be-four}
-use Rattle.xdr.specs.Over.{over}
-use mathlib.Core.List.{[], _∷_}
+-- The bytes of a number, the highest first, are those of the number turned, the lowest first. Assumes nothing.
+use Rattle.xdr.specs.Word.{be-turned}
 use borrow.Author.Needs.{needs}
 use Rattle.xdr.proofs.put_u32.Statement.{statement}
 use Rattle.xdr.proofs.put_u32.Tie as tie
 
-cast-out : tie.Need-cast-out
-cast-out c = search needs
+turned-requires : tie.Need-turned-requires
+turned-requires c κs = search needs
 
-slice-write-out : tie.Need-slice-write-out
-slice-write-out c = search needs
-
-cast-out-2 : tie.Need-cast-out-2
-cast-out-2 c = search needs
-
-slice-write-out-2 : tie.Need-slice-write-out-2
-slice-write-out-2 c = simp length-set (omega arith)
-
-cast-out-3 : tie.Need-cast-out-3
-cast-out-3 c = search needs
-
-slice-write-out-3 : tie.Need-slice-write-out-3
-slice-write-out-3 c = simp length-set (omega arith)
-
-cast-out-4 : tie.Need-cast-out-4
-cast-out-4 c = search needs
-
-slice-write-out-4 : tie.Need-slice-write-out-4
-slice-write-out-4 c = search needs
+put-low-first-requires : tie.Need-put-low-first-requires
+put-low-first-requires c κs = search needs
 
 same-length : tie.Need-same-length
 same-length c = search needs
 
 returns : tie.Need-returns
-unfolding over
-returns c = rw be-four (sets-eq (_ ∷ _ ∷ _ ∷ _ ∷ []) (c .args .out .now) 0 (c .pre))
+returns c = rw (be-turned _ (c .before .before .before .before .before .before .fits .v .fits), ← c .before .before .before .turned .ensures) (c .before .before .put-low-first .ensures)
 
 pub put-u32-spec : {M : Type 1} → statement M
-put-u32-spec =
-    tie.close
-    (tie.spec
-    cast-out
-    slice-write-out
-    cast-out-2
-    slice-write-out-2
-    cast-out-3
-    slice-write-out-3
-    cast-out-4
-    slice-write-out-4
-    same-length
-    returns)
+put-u32-spec = tie.close (tie.spec turned-requires put-low-first-requires same-length returns)

@@ -1,5 +1,6 @@
--- Four elements read one by one are the four bytes from the place. Assumes nothing.
-use Rattle.xdr.specs.Word.{word-four}
+-- Four elements read one by one, put together by the lowest first and turned, are the four bytes from the place. Assumes nothing.
+use mathlib.Core.Path.{_∙_}
+use Rattle.xdr.specs.Word.{turned-digits, word-four}
 use borrow.Author.Needs.{needs}
 use Rattle.xdr.proofs.word_at.Statement.{statement}
 use Rattle.xdr.proofs.word_at.Tie as tie
@@ -28,38 +29,46 @@ shared-slice-read-d c = search needs
 wide-requires : tie.Need-wide-requires
 wide-requires c κs = search needs
 
-mul-result : tie.Need-mul-result
-mul-result c = search needs
+mul-turned : tie.Need-mul-turned
+mul-turned c = search needs
 
 wide-requires-2 : tie.Need-wide-requires-2
 wide-requires-2 c κs = search needs
 
-mul-result-2 : tie.Need-mul-result-2
-mul-result-2 c = search needs
+mul-turned-2 : tie.Need-mul-turned-2
+mul-turned-2 c = search needs
 
 wide-requires-3 : tie.Need-wide-requires-3
 wide-requires-3 c κs = search needs
 
-mul-result-3 : tie.Need-mul-result-3
-mul-result-3 c = search needs
+mul-turned-3 : tie.Need-mul-turned-3
+mul-turned-3 c = search needs
 
 wide-requires-4 : tie.Need-wide-requires-4
 wide-requires-4 c κs = search needs
 
-add-result : tie.Need-add-result
-add-result c = search needs
+add-turned : tie.Need-add-turned
+add-turned c = search needs
 
-add-result-2 : tie.Need-add-result-2
-add-result-2 c = search needs
+add-turned-2 : tie.Need-add-turned-2
+add-turned-2 c = search needs
 
-add-result-3 : tie.Need-add-result-3
-add-result-3 c = search needs
+add-turned-3 : tie.Need-add-turned-3
+add-turned-3 c = search needs
+
+turned-requires : tie.Need-turned-requires
+turned-requires c κs = search needs
 
 returns : tie.Need-returns
 returns c =
-    let c₁ = c .before .before in
-    let c₀ = c₁ .before .before .before .before .before .before .before in
-    word-four (c₀ .args .s .now) (c₀ .args .at) _ _ _ _ (c₀ .pre) (c₁ .before .wide .ensures .0) (c₁ .wide2 .ensures .0) (c .before .wide3 .ensures .0) (c .wide4 .ensures .0)
+    let a = c .before in
+    let b = a .before in
+    let d = b .before in
+    let e = d .before in
+    let c₀ = e .before .before .before .before .before .before in
+    c .turned .ensures
+    ∙ turned-digits _ _ _ _ (a .wide4 .ensures .1) (b .wide3 .ensures .1) (d .wide2 .ensures .1) (e .wide .ensures .1)
+    ∙ word-four (c₀ .args .s .now) (c₀ .args .at) _ _ _ _ (c₀ .pre) (a .wide4 .ensures .0) (b .wide3 .ensures .0) (d .wide2 .ensures .0) (e .wide .ensures .0)
 
 pub word-at-spec : {M : Type 1} → statement M
 word-at-spec =
@@ -73,13 +82,14 @@ word-at-spec =
     add-d
     shared-slice-read-d
     wide-requires
-    mul-result
+    mul-turned
     wide-requires-2
-    mul-result-2
+    mul-turned-2
     wide-requires-3
-    mul-result-3
+    mul-turned-3
     wide-requires-4
-    add-result
-    add-result-2
-    add-result-3
+    add-turned
+    add-turned-2
+    add-turned-3
+    turned-requires
     returns)

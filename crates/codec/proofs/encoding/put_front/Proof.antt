@@ -1,43 +1,66 @@
 -- Four writers in a row write the front. Assumes nothing.
-use mathlib.Core.Path.{_∙_}
-use Rattle.codec.proofs.WriteWhole.{front-room-t, front-room-s, front-room-b, front-room-p, front-put}
+use Prim.Native.Nat.{_+_, _≤_}
+use lib.Dec.{lit<}
+use lib.ListN.{length}
+use Rattle.xdr.specs.Word.{be-length}
+use Rattle.codec.specs.Sections.{cat}
+use Rattle.codec.proofs.WriteWhole.{none-put, section-room, section-put, frontSections, front-is}
 use borrow.Author.Needs.{needs}
 use Rattle.codec.proofs.encoding.put_front.Statement.{statement}
 use Rattle.codec.proofs.encoding.put_front.Tie as tie
 
 put-u32-at-requires : tie.Need-put-u32-at-requires
 put-u32-at-requires c κs =
-    let a = c .before .before .args in
-    front-room-t _ (a .t) (a .server) (a .ballot) (a .promise) (a .at) (a .out .now) (c .before .before .pre)
+    let c₀ = c .before .before in
+    let a = c₀ .args in
+    let ss = frontSections (a .h) (a .t) (a .server) (a .ballot) (a .promise) in
+    let room : a .at + length (cat ss) ≤ length (a .out .now) = rw (front-is (a .h) (a .t) (a .server) (a .ballot) (a .promise)) (c₀ .pre) in
+    rw (be-length 4 (a .t)) at (section-room ss (a .at) (a .out .now) room 0 (lit< tt) (none-put ss (a .at) (a .out .now) room))
 
 put-u32-if-requires : tie.Need-put-u32-if-requires
 put-u32-if-requires c κs =
-    let a = c .before .before .before .before .before .before .args in
-    let q₁ = c .before .before .before .put-u32-at in
-    front-room-s _ (a .t) (a .server) (a .ballot) (a .promise) (a .at) (a .out .now) (c .before .before .before .before .before .before .pre) (q₁ .ensures) (q₁ .kept .0)
+    let c₀ = c .before .before .before .before .before .before in
+    let a = c₀ .args in
+    let ss = frontSections (a .h) (a .t) (a .server) (a .ballot) (a .promise) in
+    let room : a .at + length (cat ss) ≤ length (a .out .now) = rw (front-is (a .h) (a .t) (a .server) (a .ballot) (a .promise)) (c₀ .pre) in
+    let p₁ = section-put ss (a .at) (a .out .now) room 0 (lit< tt) (none-put ss (a .at) (a .out .now) room) (c .before .before .before .put-u32-at .ensures) in
+    section-room ss (a .at) (a .out .now) room 1 (lit< tt) p₁
 
 put-u32-if-requires-2 : tie.Need-put-u32-if-requires-2
 put-u32-if-requires-2 c κs =
-    let a = c .before .before .before .before .before .before .before .before .before .before .args in
-    let q₁ = c .before .before .before .before .before .before .before .put-u32-at in
-    let q₂ = c .before .before .before .put-u32-if in
-    front-room-b _ (a .t) (a .server) (a .ballot) (a .promise) (a .at) (a .out .now) (c .before .before .before .before .before .before .before .before .before .before .pre) (q₁ .ensures) (q₂ .ensures) (q₂ .kept .0 ∙ q₁ .kept .0)
+    let c₀ = c .before .before .before .before .before .before .before .before .before .before in
+    let a = c₀ .args in
+    let ss = frontSections (a .h) (a .t) (a .server) (a .ballot) (a .promise) in
+    let room : a .at + length (cat ss) ≤ length (a .out .now) = rw (front-is (a .h) (a .t) (a .server) (a .ballot) (a .promise)) (c₀ .pre) in
+    let p₁ = section-put ss (a .at) (a .out .now) room 0 (lit< tt) (none-put ss (a .at) (a .out .now) room) (c .before .before .before .before .before .before .before .put-u32-at .ensures) in
+    let p₂ = section-put ss (a .at) (a .out .now) room 1 (lit< tt) p₁ (c .before .before .before .put-u32-if .ensures) in
+    section-room ss (a .at) (a .out .now) room 2 (lit< tt) p₂
 
 put-u32-if-requires-3 : tie.Need-put-u32-if-requires-3
 put-u32-if-requires-3 c κs =
-    let a = c .before .before .before .before .before .before .before .before .before .before .before .before .before .before .args in
-    let q₁ = c .before .before .before .before .before .before .before .before .before .before .before .put-u32-at in
-    let q₂ = c .before .before .before .before .before .before .before .put-u32-if in
-    let q₃ = c .before .before .before .put-u32-if2 in
-    front-room-p _ (a .t) (a .server) (a .ballot) (a .promise) (a .at) (a .out .now) (c .before .before .before .before .before .before .before .before .before .before .before .before .before .before .pre) (q₁ .ensures) (q₂ .ensures) (q₃ .ensures) (q₃ .kept .0 ∙ q₂ .kept .0 ∙ q₁ .kept .0)
+    let c₀ = c .before .before .before .before .before .before .before .before .before .before .before .before .before .before in
+    let a = c₀ .args in
+    let ss = frontSections (a .h) (a .t) (a .server) (a .ballot) (a .promise) in
+    let room : a .at + length (cat ss) ≤ length (a .out .now) = rw (front-is (a .h) (a .t) (a .server) (a .ballot) (a .promise)) (c₀ .pre) in
+    let p₁ = section-put ss (a .at) (a .out .now) room 0 (lit< tt) (none-put ss (a .at) (a .out .now) room) (c .before .before .before .before .before .before .before .before .before .before .before .put-u32-at .ensures) in
+    let p₂ = section-put ss (a .at) (a .out .now) room 1 (lit< tt) p₁ (c .before .before .before .before .before .before .before .put-u32-if .ensures) in
+    let p₃ = section-put ss (a .at) (a .out .now) room 2 (lit< tt) p₂ (c .before .before .before .put-u32-if2 .ensures) in
+    section-room ss (a .at) (a .out .now) room 3 (lit< tt) p₃
 
 same-length : tie.Need-same-length
 same-length c = search needs
 
 returns : tie.Need-returns
 returns c =
-    let a = c .before .before .before .before .before .before .before .before .before .before .before .before .before .before .before .before .before .args in
-    front-put _ (a .t) (a .server) (a .ballot) (a .promise) (a .at) (a .out .now) (c .before .before .before .before .before .before .before .before .before .before .before .before .before .before .before .before .before .pre) (c .before .before .before .before .before .before .before .before .before .before .before .before .before .before .put-u32-at .ensures) (c .before .before .before .before .before .before .before .before .before .before .put-u32-if .ensures) (c .before .before .before .before .before .before .put-u32-if2 .ensures) (c .before .before .put-u32-if3 .ensures)
+    let c₀ = c .before .before .before .before .before .before .before .before .before .before .before .before .before .before .before .before .before in
+    let a = c₀ .args in
+    let ss = frontSections (a .h) (a .t) (a .server) (a .ballot) (a .promise) in
+    let room : a .at + length (cat ss) ≤ length (a .out .now) = rw (front-is (a .h) (a .t) (a .server) (a .ballot) (a .promise)) (c₀ .pre) in
+    let p₁ = section-put ss (a .at) (a .out .now) room 0 (lit< tt) (none-put ss (a .at) (a .out .now) room) (c .before .before .before .before .before .before .before .before .before .before .before .before .before .before .put-u32-at .ensures) in
+    let p₂ = section-put ss (a .at) (a .out .now) room 1 (lit< tt) p₁ (c .before .before .before .before .before .before .before .before .before .before .put-u32-if .ensures) in
+    let p₃ = section-put ss (a .at) (a .out .now) room 2 (lit< tt) p₂ (c .before .before .before .before .before .before .put-u32-if2 .ensures) in
+    let p₄ = section-put ss (a .at) (a .out .now) room 3 (lit< tt) p₃ (c .before .before .put-u32-if3 .ensures) in
+    rw (front-is (a .h) (a .t) (a .server) (a .ballot) (a .promise)) at p₄
 
 pub put-front-spec : {M : Type 1} → statement M
 put-front-spec =
