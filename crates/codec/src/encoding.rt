@@ -1,15 +1,15 @@
 // A message, written by its sections, each in the part after the last. What is refused is known before the first byte is written.
 ghost use mathlib.Core.Path.{_≡_};
 ghost use mathlib.Core.Bool.{false, _&&_};
-ghost use Prim.Native.Nat.{_+_, _*_, _≤_};
+ghost use Prim.Native.Nat.{_+_, _*_, _<_, _≤_};
 ghost use lib.Dec.{ltb};
-ghost use lib.ListN.{length};
-ghost use Rattle.xdr.specs.Over.{Put};
+ghost use lib.ListN.{length, take};
+ghost use Rattle.xdr.specs.Over.{over, Put};
 ghost use Rattle.xdr.proofs.Windows.{cost};
 ghost use Rattle.wire.specs.Bytes.{code};
 ghost use Rattle.codec.specs.Sections.{front, frontLength, cat};
 ghost use Rattle.codec.specs.ByKind.{askedShape, answeredShape, bareSections, askedSections, answeredSections};
-ghost use Rattle.codec.specs.Answers.{answer, sent};
+ghost use Rattle.codec.specs.Answers.{answer, sent, delivered};
 use crate::Encoded;
 use crate::shapes::answered_shape;
 use crate::shapes::asked_shape;
@@ -166,6 +166,30 @@ pub fn answered(
     let c = put_u64_if(out, b, h.word, word);
     let d = put_prepared_if(out, c, h.prepared, arrival, accepted);
     put_values_if(out, d, h.values, values);
+    let length = n as u32;
+    Encoded { refusal: 0, length }
+}
+
+fn copy_front(out: &mut [u8], s: &[u8], n: usize)
+    requires { ⌜ (n ≤ length (now s)) × (n ≤ length (now out)) ⌝ }
+    ensures { λ _. ⌜ now (out .exit) ≡ over (take n (now (s .entry))) (now (out .entry)) ⌝ }
+{
+    let mut i = 0;
+    while i < n {
+        out[i] = s[i];
+        i += 1;
+    }
+}
+
+// The first n bytes of s at the front of the output, or 14 where it is shorter.
+pub fn deliver(out: &mut [u8], s: &[u8], n: usize) -> Encoded
+    requires { ⌜ (n ≤ length (now s)) × (n < 4294967296) ⌝ }
+    ensures { λ r. ⌜ (r ≡ answer (delivered (now (s .entry)) n (now (out .entry)))) × (now (out .exit) ≡ delivered (now (s .entry)) n (now (out .entry)) .buffer) ⌝ }
+{
+    if out.len() < n {
+        return refused(SHORT);
+    }
+    copy_front(out, s, n);
     let length = n as u32;
     Encoded { refusal: 0, length }
 }

@@ -40,8 +40,8 @@ pub fn decode(bytes: &[u8]) -> Decoded
     short_message(bytes.len(), code, f)
 }
 
-// The message's bytes at the front of the output; or a refusal, and the output as it was.
-pub fn encode(message: Message, out: &mut [u8]) -> Encoded
+// The message's bytes at the front of the buffer, by its kind; or a refusal, and the buffer as it was.
+fn build(message: Message, out: &mut [u8]) -> Encoded
     ensures { λ r. ⌜ (r ≡ answer (encode message (now (out .entry)))) × (now (out .exit) ≡ encode message (now (out .entry)) .buffer) ⌝ }
 {
     let code = message.code;
@@ -79,4 +79,17 @@ pub fn encode(message: Message, out: &mut [u8]) -> Encoded
         );
     }
     encoding::refused(encoding::UNWRITABLE)
+}
+
+// The message's bytes at the front of the output, built in a cleared buffer and then copied; or a refusal, and the output as it was.
+pub fn encode(message: Message, out: &mut [u8]) -> Encoded
+    ensures { λ r. ⌜ (r ≡ answer (encode message (now (out .entry)))) × (now (out .exit) ≡ encode message (now (out .entry)) .buffer) ⌝ }
+{
+    let mut buffer = [0u8; 176];
+    let built = build(message, &mut buffer);
+    let unwritable = built.refusal != 0;
+    if unwritable {
+        return built;
+    }
+    encoding::deliver(out, &buffer, built.length as usize)
 }
