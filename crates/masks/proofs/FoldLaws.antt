@@ -15,7 +15,7 @@ use lib.Seq.{getD-at, ext-getD}
 use Rattle.masks.specs.Bits.{has, In, none, insert, union, within}
 use Rattle.masks.specs.Folds.{allBelow, anyBelow, countBelow, maskOf, unionOf, least, tab, iter, over}
 use Rattle.masks.proofs.Bools.{or-no, or-yes, or-yes-l, or-yes-r, and-yes, and-yes-l, and-yes-r, not-and, not-or, not-yes, true-or-false, true-and-false, bool-ext}
-use Rattle.masks.proofs.Laws.{has-in, in-has, has-none, has-put, has-union, put-lt, union-lt, same-word, within-has, has-within}
+use Rattle.masks.proofs.Laws.{has-in, has-not, in-has, in-lt, has-none, has-put, has-union, put-lt, union-lt, same-word, empty-word, within-has, has-within}
 
 -- a number below n + 1 is below n, or is n
 pub below-or-last : (i n : ℕ) → i < suc n → (i < n) ⊎ (i ≡ n)
@@ -177,6 +177,10 @@ mask-cong f g (suc n) h =
     ap₂ (λ (b : Bool) (w : ℕ). cond b (insert w n) w) (h n (omega arith)) (mask-cong f g n (λ i l. h i (omega arith)))
 
 -- a word is the set of its members
+-- a word that is not empty holds some number
+pub some-member : (n w : ℕ) → w < 2 ^ n → (w ≡ none → ⊥) → (t : ℕ) × (t < n) × (has w t ≡ true)
+some-member n w l ne = ⊎-elim (λ y. any-at (has w) n y) (λ e. absurd (ne (empty-word n w l (λ t i. has-not (any-no (has w) n t e (in-lt n l i)) i)))) (true-or-false (anyBelow (has w) n))
+
 pub mask-has : (w n : ℕ) → w < 2 ^ n → maskOf (has w) n ≡ w
 mask-has w n h = same-word n (maskOf (has w) n) w (mask-bound (has w) n) h (λ t l. has-mask-below (has w) n t l)
 
