@@ -1,12 +1,12 @@
 -- The words of a drive, shard by shard. Assumes nothing.
-use mathlib.Core.Path.{_≡_, refl, sym, ap, ap₂, _∙_}
+use mathlib.Core.Path.{_≡_, refl, sym, ap, _∙_}
 use mathlib.Core.Bool.{Bool, true, false, cond, not, _&&_, and-assoc}
 use Prim.Native.Nat.{ℕ, _+_}
 use lib.Dec.{eqb}
 use lib.Bits.{or-zero-l}
 use Rattle.masks.specs.Bits.{union}
 use Rattle.masks.specs.Folds.{allBelow, unionOf}
-use Rattle.masks.proofs.Turns.{all-none, all-step, unions-none, unions-step}
+use Rattle.masks.proofs.Turns.{all-step}
 use Rattle.masks.proofs.FoldLaws.{all-both}
 use Rattle.masks.proofs.Bools.{true-and-false}
 use Rattle.rules.specs.Cluster.{serverOf}
@@ -15,9 +15,8 @@ use Rattle.drive.specs.declared.Answer.{Answer}
 use Rattle.drive.specs.declared.Drive.{Drive}
 use Rattle.drive.specs.Held.{answerAt}
 use Rattle.drive.specs.Decide.{wordThere, agree, equalIn, equalWords, wordIn, unionIn, unions}
-use Rattle.drive_form.specs.Parts.{wordOf}
 use Rattle.drive_decide.specs.declared.InShard.{InShard}
-use Rattle.drive_decide.specs.Turns.{said, same, inShard, inAll, wordsOf}
+use Rattle.drive_decide.specs.Turns.{inShard, inAll, wordsOf}
 
 -- where none is counted, nothing is said
 silent-if : (x y z e f g : Bool) (u v w : ℕ) → (not x && not y && not z) ≡ true

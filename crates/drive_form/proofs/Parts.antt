@@ -2,7 +2,7 @@
 use mathlib.Core.Path.{_≡_, refl, sym, ap, ap₂, _∙_}
 use mathlib.Core.Bool.{Bool, true, false, cond, not, _&&_, _||_, and-true, and-false, or-false, or-true}
 use mathlib.Core.Logic.{⊎-elim}
-use Prim.Native.Nat.{ℕ, _+_, _*_, _<_, _≤_}
+use Prim.Native.Nat.{ℕ, _+_, _<_}
 use native.Mathlib.Omega.{arith}
 use borrow.Author.Tests.{eq-eqb, eqb-true}
 use lib.Dec.{leb, ltb, eqb}
@@ -172,12 +172,10 @@ module _ (d : Drive) where
       ∙ all-both (λ s. placed s && early s && worded s) voted 12
       ∙ sym (all-cong (answerFormed d) (λ s. placed s && early s && worded s && voted s) 12 (λ s l. each-test s))
 
-  answers-formed :
-      (within (counts d) (serversOf (touched d))
-      && implies (eqb (d .phase) 3) (eqb (counts d) none)
-      && implies (ltb (d .phase) 2) (not (has (unionOf (wordAt d) 12) (d .t)))
-      && allBelow voted 12)
-      ≡ allBelow (answerFormed d) 12
+  abbrev answered-well : Bool
+  answered-well = within (counts d) (serversOf (touched d)) && implies (eqb (d .phase) 3) (eqb (counts d) none) && implies (ltb (d .phase) 2) (not (has (unionOf (wordAt d) 12) (d .t)))
+
+  answers-formed : (answered-well && allBelow voted 12) ≡ allBelow (answerFormed d) 12
   answers-formed = rw (from-touched, none-last (eqb (d .phase) 3), no-own (ltb (d .phase) 2)) all-tests
 
   -- ---- the form
@@ -186,16 +184,20 @@ module _ (d : Drive) where
   kept-form : piecesKept (d .pieces) ≡ true → formedBy (d .t) (d .coordinator) (d .ballot) (d .phase) (d .seen) (d .chosen) (touched d) (walkedTo d (touched d) 12) ≡ formed d
   unfolding formedBy answersKept walkedTo formed numbersFormed ballotsFormed tooFew setFormed
   kept-form e =
-      rw (answers-formed, enough-decided, some-shard, e)
-      (in-order (numbersKept (d .t) (d .coordinator) (d .phase)) (ballotsKept (d .t) (d .coordinator) (d .phase) (d .ballot) (d .seen)) (allBelow (answerFormed d) 12) (eqb (d .phase) 3 || not (decided d)) (setKept (d .t) (touched d) (d .phase) (d .chosen)))
+      rw (← answers-formed, enough-decided, some-shard, e)
+      (in-order (numbersKept (d .t) (d .coordinator) (d .phase)) (ballotsKept (d .t) (d .coordinator) (d .phase) (d .ballot) (d .seen)) answered-well (allBelow voted 12) (eqb (d .phase) 3 || not (decided d)) (setKept (d .t) (touched d) (d .phase) (d .chosen)))
     where
       some-shard : not (eqb (touched d) none) ≡ true
       some-shard = ap (λ (w : ℕ). not (eqb w none)) (sym (kept-word (d .pieces) e)) ∙ kept-touched (d .pieces) ∙ e
 
-      in-order : (n b a f s : Bool) → ((n && true && b) && (a && f) && s) ≡ (n && true && b && a && f && s)
-      in-order true true a f s = refl
-      in-order true false a f s = refl
-      in-order false b a f s = refl
+      in-order : (n b a k f s : Bool) → ((n && true && b) && (a && f) && k && s) ≡ (n && true && b && (a && k) && f && s)
+      in-order true true true true true s = refl
+      in-order true true true true false s = refl
+      in-order true true true false true s = refl
+      in-order true true true false false s = refl
+      in-order true true false k f s = refl
+      in-order true false a k f s = refl
+      in-order false b a k f s = refl
 
   broken-form : piecesKept (d .pieces) ≡ false → formedBy (d .t) (d .coordinator) (d .ballot) (d .phase) (d .seen) (d .chosen) none (walkedTo d none 12) ≡ formed d
   unfolding formedBy formed

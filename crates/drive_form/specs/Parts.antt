@@ -77,16 +77,19 @@ acceptedAt d touched s = acceptedFormed (d .t) touched (d .phase) (answerAt d s)
 unfoldable pub walkedTo : Drive → (touched n : ℕ) → Walked
 walkedTo d touched n = record { answered = maskOf (counted d) n; words = unionOf (wordAt d) n; kept = allBelow (acceptedAt d touched) n }
 
--- the answers of a walk
-unfoldable pub answersKept : (t phase touched : ℕ) → Walked → Bool
-answersKept t p touched l =
-    within (l .answered) (serversOf touched)
-    && implies (eqb p 3) (eqb (l .answered) none)
-    && implies (ltb p 2) (not (has (l .words) t))
-    && l .kept
-    && (eqb p 3 || not (enough p touched (l .answered)))
+-- the counted servers w, and what is in any of their words
+unfoldable pub answersKept : (t phase touched w words : ℕ) → Bool
+answersKept t p touched w words =
+    within w (serversOf touched)
+    && implies (eqb p 3) (eqb w none)
+    && implies (ltb p 2) (not (has words t))
+    && (eqb p 3 || not (enough p touched w))
 
 -- ---- all of them
 
 unfoldable pub formedBy : (t coordinator ballot phase seen : ℕ) → MaybeSet → (touched : ℕ) → Walked → Bool
-formedBy t c b p seen v touched l = headKept t c b p seen touched && answersKept t p touched l && setKept t touched p v
+formedBy t c b p seen v touched l =
+    headKept t c b p seen touched
+    && answersKept t p touched (l .answered) (l .words)
+    && l .kept
+    && setKept t touched p v

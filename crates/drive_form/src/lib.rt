@@ -93,16 +93,15 @@ pub fn further(l: Walked, t: u32, shards: u64, phase: u32, s: usize, a: Answer) 
     l
 }
 
-// The answers of a walk: from touched servers only, none in phase 3, no word with the number itself, and too few to decide.
-pub fn answers_formed(t: u32, phase: u32, shards: u64, l: Walked) -> bool
-    ensures { λ r. ⌜ r ≡ answersKept t phase shards l ⌝ }
+// The counted servers, and what is in any of their words: from touched servers only, none in phase 3, no word with the number itself, and too few to decide.
+pub fn answers_formed(t: u32, phase: u32, shards: u64, answered: u64, words: u64) -> bool
+    ensures { λ r. ⌜ r ≡ answersKept t phase shards answered words ⌝ }
 {
     let last = phase == 3;
-    masks::within(l.answered, counts::servers_of(shards))
-        & (!last | masks::is_empty(l.answered))
-        & (!(phase < 2) | !masks::has(l.words, t as usize))
-        & l.kept
-        & (last | !counts::decided(phase, shards, l.answered))
+    masks::within(answered, counts::servers_of(shards))
+        & (!last | masks::is_empty(answered))
+        & (!(phase < 2) | !masks::has(words, t as usize))
+        & (last | !counts::decided(phase, shards, answered))
 }
 
 // A walk of all answers.
@@ -133,7 +132,8 @@ pub fn formed_by(
     ensures { λ r. ⌜ r ≡ formedBy t coordinator ballot phase seen chosen shards l ⌝ }
 {
     head_formed(t, coordinator, ballot, phase, seen, shards)
-        & answers_formed(t, phase, shards, l)
+        & answers_formed(t, phase, shards, l.answered, l.words)
+        & l.kept
         & set_formed(t, shards, phase, chosen)
 }
 

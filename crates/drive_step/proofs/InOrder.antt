@@ -1,8 +1,8 @@
 -- The refusals in two parts are the refusals of `drive` in its order, and what holds of a reply that is not refused. Assumes nothing.
-use mathlib.Core.Path.{_≡_, refl, sym, ap, subst, _∙_}
+use mathlib.Core.Path.{_≡_, refl, sym, subst, _∙_}
 use mathlib.Core.Bool.{Bool, true, false, not, _&&_, _||_, or-false}
 use mathlib.Core.Logic.{⊎-elim}
-use Prim.Native.Nat.{ℕ, _<_, _≤_}
+use Prim.Native.Nat.{ℕ, _<_}
 use native.Mathlib.Decide.{decLt}
 use native.Mathlib.Omega.{arith}
 use borrow.Author.Tests.{eqb-true, leb-false, lt-ltb, le-ltb}
@@ -10,7 +10,7 @@ use lib.Dec.{eqb, leb, ltb}
 use lib.ListN.{length, List·getD-eq-default}
 use Rattle.masks.specs.Bits.{has}
 use Rattle.masks.specs.Folds.{maskOf}
-use Rattle.masks.proofs.Bools.{or-no-l, or-no-r, or-yes, not-no, true-or-false, true-and-false}
+use Rattle.masks.proofs.Bools.{or-no-l, or-no-r, or-yes, not-no, true-and-false}
 use Rattle.masks.proofs.FoldLaws.{has-mask}
 use Rattle.rules.specs.Choice.{_if_else_}
 use Rattle.rules.specs.Flags.{there}

@@ -97,7 +97,8 @@ pub fn hear(d: Drive, m: Message) -> Moved
         i += 1;
     }
     let formed = head_formed(n.t, n.coordinator, n.ballot, n.phase, n.seen, shards)
-        & answers_formed(n.t, n.phase, shards, l)
+        & answers_formed(n.t, n.phase, shards, l.answered, l.words)
+        & l.kept
         & set_formed(n.t, shards, n.phase, n.chosen);
     let judged = judge(n.t, n.ballot, n.phase, n.pieces, shards, l.answered, m);
     let no = first_of(formed, judged);

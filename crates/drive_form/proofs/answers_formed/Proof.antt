@@ -21,7 +21,7 @@ decided-requires c κs = search needs
 
 returns : tie.Need-returns
 unfolding answersKept
-returns c = rw (c .decided .ensures, c .before .before .has .ensures, c .before .before .before .is-empty .ensures, c .before .before .before .before .within .ensures, c .before .before .before .before .before .servers-of .ensures)
+returns c = rw (c .decided .ensures, c .before .has .ensures, c .before .before .is-empty .ensures, c .before .before .before .within .ensures, c .before .before .before .before .servers-of .ensures)
 
 pub answers-formed-spec : {M : Type 1} → statement M
 answers-formed-spec =

@@ -15,7 +15,7 @@ set-formed-requires c κs = search needs
 
 returns : tie.Need-returns
 unfolding formedBy
-returns c = rw (c .set-formed .ensures, c .before .answers-formed .ensures, c .before .before .head-formed .ensures)
+returns c = rw (c .set-formed .ensures, c .before .before .answers-formed .ensures, c .before .before .before .head-formed .ensures)
 
 pub formed-by-spec : {M : Type 1} → statement M
 formed-by-spec =
