@@ -65,7 +65,7 @@ fn put_front(
 }
 
 // n bytes, or none.
-fn cost(has: bool, n: usize) -> usize
+pub fn cost(has: bool, n: usize) -> usize
     ensures { λ r. ⌜ (r ≡ cost has n) × (r ≤ n) ⌝ }
 {
     if has {
@@ -74,7 +74,7 @@ fn cost(has: bool, n: usize) -> usize
     0
 }
 
-fn front_length(h: Shape) -> usize
+pub fn front_length(h: Shape) -> usize
     ensures { λ r. ⌜ (r ≡ frontLength h) × (r ≤ 16) ⌝ }
 {
     4 + cost(h.server, 4) + cost(h.ballot, 4) + cost(h.promise, 4)

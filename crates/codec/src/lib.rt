@@ -1,19 +1,16 @@
 // The bytes of a message, written and read.
 ghost use mathlib.Core.Path.{_≡_};
+ghost use mathlib.Core.Bool.{true};
 ghost use Rattle.wire.specs.Bytes.{decode};
 ghost use Rattle.wire.specs.Encoding.{encode};
 ghost use Rattle.codec.specs.Answers.{answer};
-use decoding::get_front;
-use decoding::get_header;
-use decoding::long_message;
-use decoding::short_message;
-use messages::codes::shape_of;
-use shapes::has_rest;
+ghost use Rattle.codec.specs.Exact.{isBare};
+use rules::MaybeWord;
 use wire::Decoded;
 use wire::Message;
-use xdr::Cursor;
 
-mod decoding; // decoding.rt: a message read by its sections
+mod exact; // exact.rt: a message that is as long as its code says, read
+mod decoding; // decoding.rt: a message read by its sections, and the first fault
 mod encoding; // encoding.rt: a message written by its sections
 mod shapes; // shapes.rt: the kinds of messages
 
@@ -28,16 +25,58 @@ pub struct Encoded {
 pub fn decode(bytes: &[u8]) -> Decoded
     ensures { λ r. ⌜ r ≡ decode (now (bytes .entry)) ⌝ }
 {
-    let c = Cursor { at: 0, fault: 0 };
-    let k = get_header(bytes, c);
-    let code = k.v;
-    let next = k.next;
-    let h = shape_of(code);
-    let f = get_front(bytes, next, h);
-    if has_rest(h) {
-        return long_message(bytes, code, f, h);
+    let a = exact::see_asked(bytes);
+    if a.exact {
+        return exact::read_asked(bytes, a.code, a.at, a.count);
     }
-    short_message(bytes.len(), code, f)
+    let b = exact::see_answered(bytes);
+    if b.exact {
+        return exact::read_answered(bytes, b.code);
+    }
+    decoding::decode(bytes)
+}
+
+// For a caller that gives the message on: where the bytes say a code and T alone, it can make the message in the place where it gives it.
+pub fn is_bare(bytes: &[u8]) -> bool
+    ensures { λ r. ⌜ r ≡ isBare (now (bytes .entry)) ⌝ }
+{
+    exact::is_bare(bytes)
+}
+
+pub fn decode_bare(bytes: &[u8]) -> Decoded
+    requires { ⌜ isBare (now bytes) ≡ true ⌝ }
+    ensures { λ r. ⌜ r ≡ decode (now (bytes .entry)) ⌝ }
+{
+    exact::read_bare(bytes)
+}
+
+// The same, field by field: what stands between the fields is not copied.
+pub fn by_fields(d: Decoded) -> Decoded
+    ensures { λ r. ⌜ r ≡ d ⌝ }
+{
+    let pieces = d.message.pieces;
+    let set = d.message.set;
+    let accepted = d.message.accepted;
+    let values = d.message.values;
+    Decoded {
+        refusal: d.refusal,
+        message: Message {
+            code: d.message.code,
+            t: d.message.t,
+            server: d.message.server,
+            ballot: d.message.ballot,
+            promise: d.message.promise,
+            pieces,
+            set,
+            word: d.message.word,
+            arrival: MaybeWord {
+                some: d.message.arrival.some,
+                word: d.message.arrival.word,
+            },
+            accepted,
+            values,
+        },
+    }
 }
 
 // The message's bytes at the front of the output; or a refusal, and the output as it was.
