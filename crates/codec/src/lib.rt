@@ -119,3 +119,28 @@ pub fn encode(message: Message, out: &mut [u8]) -> Encoded
     }
     encoding::refused(encoding::UNWRITABLE)
 }
+
+// The same, of a message that is lent: for what hosts send most, only the fields that its code has are taken from where it stands.
+pub fn encode_lent(message: Message, out: &mut [u8]) -> Encoded
+    ensures { λ r. ⌜ (r ≡ answer (encode message (now (out .entry)))) × (now (out .exit) ≡ encode message (now (out .entry)) .buffer) ⌝ }
+{
+    let code = message.code;
+    if shapes::bare(code) {
+        return encoding::bare(out, code, message.t);
+    }
+    if shapes::asked(code) {
+        let list = message.pieces.list;
+        let set = message.set;
+        return encoding::asked(
+            out,
+            code,
+            message.t,
+            message.ballot,
+            list,
+            message.pieces.count,
+            set,
+        );
+    }
+    let m = message;
+    encode(m, out)
+}
