@@ -23,7 +23,10 @@ pub extern "C" fn drobulets_next_ballot(c: u32, n: u32) -> NextBallot
 pub extern "C" fn drobulets_decode(input: &[u8]) -> Decoded
     ensures { λ r. ⌜ r ≡ decode (now (input .entry)) ⌝ }
 {
-    codec::decode(input)
+    if codec::is_bare(input) {
+        return codec::decode_bare(input);
+    }
+    codec::by_fields(codec::decode(input))
 }
 
 // The message's bytes at the front of the output, or a refusal and the output as it was lent.
