@@ -36,7 +36,7 @@ struct Answer(u32, u32);
 
 extern "C" {
     fn drobulets_decode(input: *const u8, length: usize) -> Decoded;
-    fn drobulets_encode(message: Flat, output: *mut u8, room: usize) -> Answer;
+    fn drobulets_encode(message: *const Flat, output: *mut u8, room: usize) -> Answer;
     fn tirpc_decode(longest: c_int, bytes: *const u8, length: u32) -> u32;
     fn tirpc_encode(longest: c_int, bytes: *mut u8, room: u32) -> u32;
 }
@@ -67,7 +67,7 @@ fn encoding(meter: &Meter, longest: c_int, plain: &Message, bytes: &[u8], name: 
     assert_eq!(unsafe { tirpc_decode(longest, bytes.as_ptr(), many) }, many);
     let before = [0xA5u8; LONGEST];
     let (ours, a) = meter.of(&format!("{name} library"), TIMES, &before, |to| {
-        assert_eq!(unsafe { drobulets_encode(*black_box(&flat), to.as_mut_ptr(), LONGEST) }, Answer(0, many));
+        assert_eq!(unsafe { drobulets_encode(black_box(&flat), to.as_mut_ptr(), LONGEST) }, Answer(0, many));
     });
     let (rust, b) = meter.of(&format!("{name} Rust"), TIMES, &before, |to| {
         assert_eq!(codec::encode(black_box(plain), &mut to[..]), Ok(many as usize));
@@ -92,7 +92,7 @@ fn decoding(meter: &Meter, longest: c_int, plain: &Message, bytes: &[u8], name: 
         assert_eq!(unsafe { tirpc_decode(longest, black_box(from), many as u32) } as usize, many);
     });
     let mut again = [[0u8; LONGEST]; 2];
-    unsafe { drobulets_encode(drobulets_decode(from, many).1, again[0].as_mut_ptr(), LONGEST) };
+    unsafe { drobulets_encode(&drobulets_decode(from, many).1, again[0].as_mut_ptr(), LONGEST) };
     unsafe { tirpc_encode(longest, again[1].as_mut_ptr(), LONGEST as u32) };
     assert!(codec::decode(bytes) == Ok(*plain) && again.iter().all(|a| a.starts_with(bytes)));
     (name, [ours, rust, tirpc])

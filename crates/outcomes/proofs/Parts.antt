@@ -17,8 +17,10 @@ use Rattle.parts.proofs.get_parts.get_set_if.Reads as parts·get-parts·get-set
 use Rattle.parts.proofs.get_parts.get_maybe_word.Reads as parts·get-parts·get-maybe-word-contract
 use Rattle.parts.proofs.get_parts.get_maybe_vote.Reads as parts·get-parts·get-maybe-vote-contract
 use Rattle.parts.proofs.get_parts.get_prepared_if.Reads as parts·get-parts·get-prepared-if-contract
+use Rattle.parts.proofs.put_arrays.put_piece_if.Reads as parts·put-arrays·put-piece-if-contract
 use Rattle.parts.proofs.put_arrays.put_piece_list.Reads as parts·put-arrays·put-piece-list-contract
 use Rattle.parts.proofs.put_arrays.put_pieces_if.Reads as parts·put-arrays·put-pieces-if-contract
+use Rattle.parts.proofs.put_arrays.put_value_if.Reads as parts·put-arrays·put-value-if-contract
 use Rattle.parts.proofs.put_arrays.put_value_list.Reads as parts·put-arrays·put-value-list-contract
 use Rattle.parts.proofs.put_arrays.put_values_if.Reads as parts·put-arrays·put-values-if-contract
 use Rattle.parts.proofs.put_parts.put_u32_at.Reads as parts·put-parts·put-u32-at-contract
@@ -74,6 +76,12 @@ parts·get-parts·get-maybe-vote κ a x y e e′ p q = λ i. record { v = (p .va
 pub parts·get-parts·get-prepared-if : Answers parts·get-parts·get-prepared-if-contract.Post
 parts·get-parts·get-prepared-if κ a x y e e′ p q = λ i. record { arrival = (p .value ∙ sym (q .value)) i .0; accepted = (p .value ∙ sym (q .value)) i .1; next = (p .next ∙ sym (q .next)) i }
 
+pub parts·put-arrays·put-piece-if : Answers parts·put-arrays·put-piece-if-contract.Post
+parts·put-arrays·put-piece-if κ a x y e e′ p q = p .next ∙ sym (q .next)
+
+pub parts·put-arrays·put-piece-if·leaves-out : Leaves {B = List ℕ} (λ κ e. e .0 .now) parts·put-arrays·put-piece-if-contract.Post
+parts·put-arrays·put-piece-if·leaves-out κ a x y e e′ p q = p .bytes ∙ sym (q .bytes)
+
 pub parts·put-arrays·put-piece-list : Answers parts·put-arrays·put-piece-list-contract.Post
 parts·put-arrays·put-piece-list κ a x y e e′ p q = p .next ∙ sym (q .next)
 
@@ -85,6 +93,12 @@ parts·put-arrays·put-pieces-if κ a x y e e′ p q = p .next ∙ sym (q .next)
 
 pub parts·put-arrays·put-pieces-if·leaves-out : Leaves {B = List ℕ} (λ κ e. e .0 .now) parts·put-arrays·put-pieces-if-contract.Post
 parts·put-arrays·put-pieces-if·leaves-out κ a x y e e′ p q = p .bytes ∙ sym (q .bytes)
+
+pub parts·put-arrays·put-value-if : Answers parts·put-arrays·put-value-if-contract.Post
+parts·put-arrays·put-value-if κ a x y e e′ p q = p .next ∙ sym (q .next)
+
+pub parts·put-arrays·put-value-if·leaves-out : Leaves {B = List ℕ} (λ κ e. e .0 .now) parts·put-arrays·put-value-if-contract.Post
+parts·put-arrays·put-value-if·leaves-out κ a x y e e′ p q = p .bytes ∙ sym (q .bytes)
 
 pub parts·put-arrays·put-value-list : Answers parts·put-arrays·put-value-list-contract.Post
 parts·put-arrays·put-value-list κ a x y e e′ p q = p .next ∙ sym (q .next)

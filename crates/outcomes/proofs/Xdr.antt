@@ -9,6 +9,8 @@ use Rattle.xdr.proofs.of_i32.Reads as xdr·of-i32-contract
 use Rattle.xdr.proofs.to_i32.Reads as xdr·to-i32-contract
 use Rattle.xdr.proofs.put_i32.Reads as xdr·put-i32-contract
 use Rattle.xdr.proofs.put_bool.Reads as xdr·put-bool-contract
+use Rattle.xdr.proofs.word_at.Reads as xdr·word-at-contract
+use Rattle.xdr.proofs.hyper_at.Reads as xdr·hyper-at-contract
 use Rattle.xdr.proofs.get_u32.Reads as xdr·get-u32-contract
 use Rattle.xdr.proofs.get_u64.Reads as xdr·get-u64-contract
 use Rattle.xdr.proofs.judge.Reads as xdr·judge-contract
@@ -33,6 +35,12 @@ xdr·put-i32 κ a x y e e′ p q = p ∙ sym q
 
 pub xdr·put-bool : Leaves {B = List ℕ} (λ κ e. e .0 .now) xdr·put-bool-contract.Post
 xdr·put-bool κ a x y e e′ p q = p ∙ sym q
+
+pub xdr·word-at : Answers xdr·word-at-contract.Post
+xdr·word-at κ a x y e e′ p q = p ∙ sym q
+
+pub xdr·hyper-at : Answers xdr·hyper-at-contract.Post
+xdr·hyper-at κ a x y e e′ p q = p ∙ sym q
 
 pub xdr·get-u32 : Answers xdr·get-u32-contract.Post
 xdr·get-u32 κ a x y e e′ p q = λ i. record { v = (p .value ∙ sym (q .value)) i; next = (p .next ∙ sym (q .next)) i }
