@@ -5,7 +5,8 @@ use mathlib.Core.List.{List, append-assoc, append-nil}
 use Prim.Native.Nat.{ℕ, _+_, _*_, _≤_, _<_}
 use native.Mathlib.Omega.{arith}
 use lib.Dec.{ltb, eqb}
-use lib.ListN.{length, length-append}
+use lib.ListN.{length, take, drop, length-append}
+use lib.Seq.{take-at}
 use borrow.Author.Tests.{lt-ltb, le-ltb}
 use Rattle.xdr.specs.Word.{be-length}
 use Rattle.xdr.specs.Over.{over, Put}
@@ -27,6 +28,7 @@ use Rattle.wire.specs.Codes.{shapeOf, unknown}
 use Rattle.wire.specs.Parts.{piece, pieces, set4, prepared, values, maybeWord, maybeVote}
 use Rattle.wire.specs.Bytes.{body, bodyOf, code, bytes, unwritable, encodeRefusal}
 use Rattle.wire.specs.Encoding.{Encoding, refused, written, encode}
+use Rattle.wire.proofs.Longest.{cost-le}
 use Rattle.wire.proofs.Lengths.{piece-length, set-length, values-length, maybe-word-length, maybe-vote-length}
 use Rattle.codec.specs.Answers.{sent}
 use Rattle.codec.specs.Sections.{front, frontLength, cat}
@@ -77,11 +79,19 @@ answered-length h k t s b p w a v r e m =
     let z = when-length noValues values (h .values) r (λ g. values-length r (omega (arith, m g))) in
     simp length-append (omega (arith, be-length 4 k, front-length h t s b p))
 
+-- no server and no promise: eight bytes before the count
+pub asked-small : (k : ℕ) (h : Shape) → h ≡ askedShape k → frontLength h ≤ 8
+asked-small k h e = rw e (omega (arith, cost-le (askedShape k .ballot) 4))
+
 pub few-values : (b : Bool) (n : ℕ) → (b ≡ true → n ≤ 8) → cost b (4 + n * 8) ≤ 68
 few-values true n h = omega (arith, h refl)
 few-values false n h = omega arith
 
 -- ---- what is sent
+
+built-first : (s : List ℕ) {n : ℕ} {z₀ : List ℕ} {r : ℕ} {b : List ℕ} → length s ≡ n → Put 0 s z₀ r b → take n b ≡ s
+unfolding over
+built-first s {n} {z₀} l p = ap (take n) (p .bytes) ∙ take-at s (drop (length s) z₀) n l
 
 module _ (s z : List ℕ) {u : Bool} where
   pub sent-12 : u ≡ true → refused 12 z ≡ sent u s z
@@ -93,9 +103,12 @@ module _ (s z : List ℕ) {u : Bool} where
     unfolding sent
     sent-14 h = rw (e, l, lt-ltb (length z) n h)
 
-    pub sent-all : n ≤ length z → {r : ℕ} {z′ : List ℕ} → Put 0 s z r z′ → _≡_ {A = Encoding} (record { refusal = 0; size = n; buffer = z′ }) (sent u s z)
+    -- built in another buffer, and then copied
+    pub sent-all : n ≤ length z → {z₀ : List ℕ} {r : ℕ} {b z′ : List ℕ} → Put 0 s z₀ r b → z′ ≡ over (take n b) z → _≡_ {A = Encoding} (record { refusal = 0; size = n; buffer = z′ }) (sent u s z)
     unfolding sent
-    sent-all h p = rw (e, l, le-ltb (length z) n h, p .bytes)
+    sent-all h p q =
+        let all = q ∙ ap (λ (x : List ℕ). over x z) (built-first s l p) in
+        rw (e, l, le-ltb (length z) n h, all)
 
 -- ---- and the definition
 

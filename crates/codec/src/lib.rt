@@ -79,7 +79,7 @@ pub fn by_fields(d: Decoded) -> Decoded
     }
 }
 
-// The message's bytes at the front of the output; or a refusal, and the output as it was.
+// The message's bytes at the front of the output, built in a cleared buffer and then copied; or a refusal, and the output as it was.
 pub fn encode(message: Message, out: &mut [u8]) -> Encoded
     ensures { λ r. ⌜ (r ≡ answer (encode message (now (out .entry)))) × (now (out .exit) ≡ encode message (now (out .entry)) .buffer) ⌝ }
 {
