@@ -2,41 +2,14 @@
 
 use crate::meter::{head, line, Cost, Meter};
 use crate::states::pieces;
-use engine::layout::{MaybeVote, MaybeWord, Pieces, Set, Values};
+use drobulets::layout::{self, Answer, Pieces, Set};
+use drobulets::raw;
 use engine::{image, LONGEST};
 use model::{codec, Message};
 use std::ffi::c_int;
 use std::hint::black_box;
 
-/// The library's message, of the header's `drobulets_message`.
-#[repr(C)]
-#[derive(Clone, Copy, Default)]
-struct Flat {
-    code: u32,
-    t: u32,
-    server: u32,
-    ballot: u32,
-    promise: u32,
-    pieces: Pieces,
-    set: Set,
-    word: u64,
-    arrival: MaybeWord,
-    accepted: MaybeVote,
-    values: Values,
-}
-
-/// The refusal and the message.
-#[repr(C)]
-struct Decoded(u32, Flat);
-
-/// The refusal and the length.
-#[repr(C)]
-#[derive(Debug, PartialEq)]
-struct Answer(u32, u32);
-
 extern "C" {
-    fn drobulets_decode(input: *const u8, length: usize) -> Decoded;
-    fn drobulets_encode(message: *const Flat, output: *mut u8, room: usize) -> Answer;
     fn tirpc_decode(longest: c_int, bytes: *const u8, length: u32) -> u32;
     fn tirpc_encode(longest: c_int, bytes: *mut u8, room: u32) -> u32;
 }
@@ -62,12 +35,12 @@ pub fn measure(meter: &Meter) {
 fn encoding(meter: &Meter, longest: c_int, plain: &Message, bytes: &[u8], name: String) -> (String, [Cost; 3]) {
     let pieces = plain.pieces().map_or(Pieces::default(), image::pieces_image);
     let (ballot, set) = (plain.ballot().unwrap_or(0), plain.set().map_or(Set::default(), image::set_image));
-    let flat = Flat { code: plain.code(), t: plain.t(), ballot, pieces, set, ..Flat::default() };
+    let flat = layout::Message { code: plain.code(), t: plain.t(), ballot, pieces, set, ..Default::default() };
     let many = bytes.len() as u32;
     assert_eq!(unsafe { tirpc_decode(longest, bytes.as_ptr(), many) }, many);
     let before = [0xA5u8; LONGEST];
     let (ours, a) = meter.of(&format!("{name} library"), TIMES, &before, |to| {
-        assert_eq!(unsafe { drobulets_encode(black_box(&flat), to.as_mut_ptr(), LONGEST) }, Answer(0, many));
+        assert_eq!(raw::encode(black_box(&flat), to), Answer { refusal: 0, length: many });
     });
     let (rust, b) = meter.of(&format!("{name} Rust"), TIMES, &before, |to| {
         assert_eq!(codec::encode(black_box(plain), &mut to[..]), Ok(many as usize));
@@ -83,7 +56,7 @@ fn encoding(meter: &Meter, longest: c_int, plain: &Message, bytes: &[u8], name: 
 fn decoding(meter: &Meter, longest: c_int, plain: &Message, bytes: &[u8], name: String) -> (String, [Cost; 3]) {
     let (from, many) = (bytes.as_ptr(), bytes.len());
     let (ours, _) = meter.of(&format!("{name} library"), TIMES, &(), |_| {
-        assert_eq!(black_box(&unsafe { drobulets_decode(black_box(from), many) }).0, 0);
+        assert_eq!(black_box(&raw::decode(black_box(bytes))).refusal, 0);
     });
     let (rust, _) = meter.of(&format!("{name} Rust"), TIMES, &(), |_| {
         assert!(black_box(&codec::decode(black_box(bytes))).is_ok());
@@ -92,7 +65,7 @@ fn decoding(meter: &Meter, longest: c_int, plain: &Message, bytes: &[u8], name: 
         assert_eq!(unsafe { tirpc_decode(longest, black_box(from), many as u32) } as usize, many);
     });
     let mut again = [[0u8; LONGEST]; 2];
-    unsafe { drobulets_encode(&drobulets_decode(from, many).1, again[0].as_mut_ptr(), LONGEST) };
+    raw::encode(&raw::decode(bytes).message, &mut again[0]);
     unsafe { tirpc_encode(longest, again[1].as_mut_ptr(), LONGEST as u32) };
     assert!(codec::decode(bytes) == Ok(*plain) && again.iter().all(|a| a.starts_with(bytes)));
     (name, [ours, rust, tirpc])

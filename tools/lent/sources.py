@@ -54,18 +54,83 @@ class Struct:
 
 
 class Number:
-    """u32."""
-    type, row, makes = 'ℕ', 'u32', '(uint-makes 𝓤 H A W w32)'
+    """A number of a width."""
+    type = 'ℕ'
+
+    def __init__(self, row, width):
+        self.row, self.width = row, width
+        self.makes = f'(uint-makes 𝓤 H A W {width})'
 
     def typed(self, x, known):
-        return f'uint-lawful 𝓤 H A W w32 .typed {x} _ {known} .0'
+        return f'uint-lawful 𝓤 H A W {self.width} .typed {x} _ {known} .0'
 
     def uses(self):
         return []
 
 
 def kind_of(name, short):
-    return Number() if name == 'u32' else Struct(name, 'station', short)
+    return Number('u32', 'w32') if name == 'u32' else Struct(name, 'station', short)
+
+
+BYTES = {'bool': 1, 'u8': 1, 'i8': 1, 'u16': 2, 'i16': 2, 'u32': 4, 'i32': 4, 'u64': 8, 'i64': 8, 'usize': 8, 'isize': 8}
+
+
+def sources(crate):
+    return ''.join(without_comments(p.read_text(encoding='utf-8')) for p in sorted(pathlib.Path('crates', crate, 'src').glob('**/*.rt')))
+
+
+def fields_of(name, crate):
+    """The fields of a declared struct and their types, and the crate that declares it."""
+    home = home_of(name, crate)
+    declared = re.search(rf'\bpub struct {name} \{{(.*?)\n\}}', sources(home), re.S).group(1)
+    return re.findall(r'\bpub (\w+): ([^,]+),', declared), home
+
+
+def array_of(kind, crate):
+    """The element's type and the length of an array's type, or None."""
+    found = re.match(r'\[(.+); (?:\w+::)*(\w+)\]$', kind)
+    if not found:
+        return None
+    length = found.group(2)
+    return found.group(1), int(length if length.isdigit() else re.search(rf'\bconst {length}: usize = (\d+);', sources(crate)).group(1))
+
+
+def layout(kind, crate):
+    """The size and the alignment of a type, as C has them."""
+    if kind in BYTES:
+        return BYTES[kind], BYTES[kind]
+    if array_of(kind, crate):
+        element, length = array_of(kind, crate)
+        size, align = layout(element, crate)
+        return length * size, align
+    fields, home = fields_of(kind, crate)
+    aligns = [layout(t, home)[1] for _, t in fields]
+    return starts_of(fields, home)[-1], max(aligns)
+
+
+def starts_of(fields, crate):
+    """Where each field of a struct begins, and where the struct ends."""
+    starts, end, widest = [], 0, 1
+    for _, kind in fields:
+        size, align = layout(kind, crate)
+        starts.append(-(-end // align) * align)
+        end, widest = starts[-1] + size, max(widest, align)
+    return starts + [-(-end // widest) * widest]
+
+
+class Element:
+    """The element of an array of the state that a function stores, in the place of the whole state."""
+
+    def __init__(self, state, field, work):
+        fields, home = fields_of(state.type, state.home)
+        self.fields, self.field = [name for name, _ in fields], field
+        self.number = self.fields.index(field)
+        kind, self.many = array_of(dict(fields)[field], home)
+        self.start = starts_of(fields, home)[self.number]
+        self.struct = Struct(kind, home, 'E')
+        # the laws of what is stored, in the crate of the work: what is told is what the contract says, the place is within the array, and the state with the element there is the one that the contract says
+        law = hyphens(work.path.split('::')[-1])
+        self.laws, self.told, self.below, self.left = f'Rattle.{work.crate}.proofs.Stored', f'{law}-told', f'{law}-below', f'{law}-left'
 
 
 class Parameter:
@@ -145,6 +210,7 @@ class Callee:
             raise SystemExit(f'{path} is no public function')
         f = found[0]
         self.path, self.crate, self.alias, self.answer = path, crate, alias, f.answer
+        self.contract = alias.capitalize()
         self.params = [name for name, _ in f.params]
         self.facts = [c.split(' ≡ ', 1)[1] for c in clauses_of(f.ensures[0])]
         self.module = f'Rattle.{crate}.proofs.{f.module}'
@@ -178,17 +244,32 @@ class Thin:
         self.others = [Parameter(name, kind, 1 + slices.index(name) if name in slices else None, self.lifetimes) for name, kind in others]
         self.output = next((j for j, p in enumerate(self.others) if p.written), None)
         self.answer = kind_of(f.answer, 'P')
-        body = re.search(rf'\bfn {self.name}\b.*?\n\{{\n(.*?)\n\}}', source_of('station', f.path), re.S).group(1)
+        body = body_of(f)
         calls = re.findall(r'((?:\w+::)+\w+)\(', body)
         self.work = Callee(calls[0], 'work')
         self.given = [self.s] + [p.given for p in self.others]
         self.callees = [self.work]
+        self.element, self.asked = None, []
         if self.changes:
             self.outcome = Struct(self.work.answer, self.work.crate, 'O')
-            self.tell, self.leave = Callee(calls[1], 'tell'), Callee(calls[2], 'leave')
-            self.callees += [self.tell, self.leave]
+            stored = re.search(rf'\b{self.s}\.(\w+)\[\w+\] = ', body)
+            self.element = Element(self.state, stored.group(1), self.work) if stored else None
+            kinds = [('tell', self.answer)] + [('spot', Number('usize', 'w64'))] * bool(stored) + [('leave', self.element.struct if stored else self.state)]
+            # the functions that tell the parts of the outcome, each with what it answers
+            self.asked = [(Callee(path, alias), kind) for path, (alias, kind) in zip(calls[1:], kinds)]
+            self.tell, self.leave = self.asked[0][0], self.asked[-1][0]
+            self.callees += [callee for callee, _ in self.asked]
+
+
+def lent_functions():
+    """The functions of `station` that are lent a state."""
+    return [f for f in public_functions() if f.crate == 'station' and f.params and re.match(r'&(mut )?[A-Z]', f.params[0][1])]
+
+
+def body_of(f):
+    return re.search(rf"\bfn {f.path.split('::')[-1]}\b.*?\n\{{\n(.*?)\n\}}", source_of('station', f.path), re.S).group(1)
 
 
 def thin_functions():
-    """The exported functions that are lent a state."""
-    return [Thin(f) for f in public_functions() if f.crate == 'station' and f.exported and f.params and re.match(r'&(mut )?[A-Z]', f.params[0][1])]
+    """Those that do the work by value."""
+    return [Thin(f) for f in lent_functions() if '::' in body_of(f)]

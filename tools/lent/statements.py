@@ -33,14 +33,14 @@ def opening(t):
     lines = ['abbrev stayed : Stays (f.ended .signature .params) (f.ended .kept)', 'stayed = ' + nest([first] + [p.stays for p in t.others]), '',
              f'abbrev vals : {t.state.type} → List Val', f'vals = {t.state.vals()}', '',
              f'module _ {MODEL} {RUNS} where', '  -- the contracts that the proof cites']
-    cited = [('Work', 'work')] + ([('Tell', 'tell'), ('Leave', 'leave')] if t.changes else [])
-    for name, alias in cited:
-        lines += [f'  abbrev {name} : Contract 𝓤', f'  {name} = tripleOf 𝓤 H A {alias}.signature ({alias}.spec 𝓤 H A at-mem runs)', '']
-    if t.changes:
-        for callee, kind in ((t.tell, t.answer), (t.leave, t.state)):
-            said, x = f'r ≡ {callee.says(0, ["m"])}', callee.alias
-            lines += [f'  {x}s : (m : {t.outcome.type}) (r : {kind.type}) → ent 𝓤 (ensured 𝓤 H A {x}.ended ({x}.clauses 𝓤 H A at-mem runs) tt (m, tt) tt r) (fact 𝓤 ({said}))',
-                      f'  {x}s m r = exE 𝓤 _ (λ ws. snd∗ 𝓤 (sem 𝓤 H A (lasts {x}.ended tt (m, tt) ws)) (fact 𝓤 ({said})))', '']
+    for callee in t.callees:
+        lines += [f'  abbrev {callee.contract} : Contract 𝓤', f'  {callee.contract} = tripleOf 𝓤 H A {callee.alias}.signature ({callee.alias}.spec 𝓤 H A at-mem runs)', '']
+    for callee, kind in t.asked:
+        said, x = f'r ≡ {callee.says(0, ["m"])}', callee.alias
+        lines += [f'  {x}s : (m : {t.outcome.type}) (r : {kind.type}) → ent 𝓤 (ensured 𝓤 H A {x}.ended ({x}.clauses 𝓤 H A at-mem runs) tt (m, tt) tt r) (fact 𝓤 ({said}))',
+                  f'  {x}s m r = exE 𝓤 _ (λ ws. snd∗ 𝓤 (sem 𝓤 H A (lasts {x}.ended tt (m, tt) ws)) (fact 𝓤 ({said})))', '']
+    if t.element:
+        lines += [f'lies : Lies T′.mir {t.element.number} E′.mir {t.element.many} {t.element.start}', 'lies = (refl, refl)', '']
     slices = [p for p in t.others if p.lent]
     κ, q = ' '.join(['κ'] + [f'κ{p.lifetime}' for p in slices]), ' '.join(['q'] + [f'q{p.lifetime}' for p in slices])
     given = ''.join(f' ({p.name} : {p.denotes})' for p in t.others)
@@ -58,10 +58,28 @@ def opening(t):
         lines += [f'  abbrev told : {t.answer.type}', f'  told = {t.work.says(0, t.given)}', '']
     if t.output is not None:
         lines += ['  abbrev bytes : List ℕ', f'  bytes = {t.work.says(1, t.given)}', '']
+    lines += storing(t) if t.element else []
     return lines + ['  abbrev Post : Val → SProp 𝓤', f'  Post = walkOf 𝓤 H A f.ended stayed (f.clauses 𝓤 H A at-mem runs) .post ({bound(t)}, tt)', '',
                     "  -- the tokens of the other parameters' lifetimes, and what those parameters own: both go to the callee as they stand",
                     '  abbrev tokens : Item 𝓤', f'  tokens = {tokens}', '',
                     '  abbrev others : Fml', f'  others = owns ({row_of([p.row for p in t.others])}) (a .1) (at .1)', '']
+
+
+def storing(t):
+    """Of a function that stores one element: the state with any element at any place, the two at hand, that the place is within the array, and what the state with the element owes."""
+    e, s = t.element, t.s
+    spot, leave = (callee.says(0, ['outcome']) for callee, _ in t.asked[1:])
+    fields = '; '.join(f'{x} = set ({s} .{x}) i x' if x == e.field else f'{x} = {s} .{x}' for x in e.fields)
+    had = [f'had{place(j)}' for j in range(e.number)] + [f'put-in E.the-field E′.the-field-laws {e.many} ({s} .{e.field}) i x u (had{place(e.number)}) is']
+    rest = 'had' + ' .1' * (e.number + 1)
+    return [f'  -- the {t.state.type} with x at i, and what is stored',
+            f'  abbrev storing : ℕ → {e.struct.type} → {t.state.type}', f'  storing i x = record {{ {fields} }}', '',
+            f'  abbrev stored : {t.state.type}', f'  stored = storing ({spot}) ({leave})', '',
+            f'  below : (i : ℕ) → i ≡ {spot} → i < {e.many}',
+            f'  below i e = subst (λ (n : ℕ). n < {e.many}) (sym e) ({e.below} {" ".join(t.given)})', '',
+            f'  made : (i : ℕ) (x : {e.struct.type}) (u : Val) → Is T.the-row {s} (vals {s}) → Is {e.struct.row} x (u ∷ []) → Is T.the-row (storing i x) (vals (storing i x))',
+            '  made i x u was is =', f'      let had = LL.owed T.the-type T′.the-laws {s} (vals {s}) was in',
+            f'      LL.owes T.the-type T′.the-laws (storing i x) ({", (".join(had)}, {rest}{")" * len(had)}', '']
 
 
 def exits(t):
@@ -74,12 +92,14 @@ def exits(t):
     told = t.tell.says(0, ['outcome']) if t.changes else 'told'
     knows = [f'k ≡ {told}']
     if t.changes:
-        knows += [f'r ≡ {t.leave.says(0, ["outcome"])}']
+        knows += ['r ≡ stored' if t.element else f'r ≡ {t.leave.says(0, ["outcome"])}']
     if written:
         knows += [f'zs ≡ bytes → length zs ≡ length ({written.name} .now)']
     knows += [f'Is {t.answer.row} k (v ∷ [])']
     facts = ['e₁'] + ['e₂'] * t.changes + ['e₃'] * bool(written)
-    said = facts[0] if len(facts) == 1 else f'({", ".join(facts)})'
+    laws = {'e₁': t.element.told, 'e₂': t.element.left} if t.element else {}
+    shown = [f'{e} ∙ {laws[e]} {" ".join(t.given)}' if e in laws else e for e in facts]
+    said = shown[0] if len(shown) == 1 else f'({", ".join(shown)})'
     last = nest((['r'] if t.changes else ['tt']) + ['zs' if p.written else 'tt' for p in t.others])
     fits = nest(['tt'] + ['l' if p.written else 'tt' for p in t.others])
     names = ' '.join(['r'] * t.changes + ['k v'] + ['zs'] * bool(written) + facts + ['l'] * bool(written) + ['is'])
@@ -100,7 +120,7 @@ def goings(t):
     lines = ['  abbrev to-work : Work 𝓤 H A at-mem runs .Ghost', f'  to-work = (({lifetimes(t, "κ", False)}, {lifetimes(t, "q", False)}, tt, ({t.s}, a .1), (vals {t.s}, at .1)), tt)', '',
              f'  goes-work : ent 𝓤 (⋆ 𝓤 H A (tokens ∷ ‵ (T.the-row .own {t.s} (vals {t.s})) ∷ ‵ others ∷ [])) (Work 𝓤 H A at-mem runs .pre to-work)',
              f'  goes-work = qed W (tokens ∷ ‵ (T.the-row .own {t.s} (vals {t.s})) ∷ ‵ others ∷ []) ∵ move ! (1 ∷ 2 ∷ 0 ∷ []) $ fjoin ! $ move ! (1 ∷ 0 ∷ []) $ join ! $ frame ! $ done !', '']
-    for name, alias in (('Tell', 'tell'), ('Leave', 'leave')) if t.changes else ():
+    for name, alias in [(callee.contract, callee.alias) for callee, _ in t.asked]:
         lines += [f'  abbrev to-{alias} : {t.outcome.type} → Val → {name} 𝓤 H A at-mem runs .Ghost', f'  to-{alias} m v = ((tt, tt, tt, (m, tt), (v ∷ [], tt)), tt)', '',
                   f'  goes-{alias} : (m : {t.outcome.type}) (v : Val) → ent 𝓤 (sem 𝓤 H A (O.the-row .own m (v ∷ []))) ({name} 𝓤 H A at-mem runs .pre (to-{alias} m v))',
                   f'  goes-{alias} m v = qed W (‵ (O.the-row .own m (v ∷ [])) ∷ []) ∵ nothing ! $ move ! (1 ∷ 0 ∷ []) $ join ! $ nothing ! $ join ! $ frame ! $ done !', '']
@@ -109,7 +129,7 @@ def goings(t):
 
 def closing(t):
     """From the walk to the contract."""
-    callees = [(t.work, 'Work', 'k₁')] + ([(t.tell, 'Tell', 'k₂'), (t.leave, 'Leave', 'k₃')] if t.changes else [])
+    callees = [(callee, callee.contract, f'k{n}') for callee, n in zip(t.callees, '₁₂₃₄')]
     known = ' → '.join(f'Triple 𝓤 (C #{c.key}) ({name} 𝓤 H A at-mem runs)' for c, name, _ in callees)
     ks = ' '.join(k for _, _, k in callees)
     many = t.lifetimes

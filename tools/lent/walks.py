@@ -14,11 +14,12 @@ class Places:
 
     def __init__(self, t):
         m, output = len(t.others), t.output is not None
-        made = 3 if t.changes else 1
-        self.many = 2 + m + made + 2 * output
-        self.outcome, self.told = m + 2, m + 3
-        self.copy = m + (4 if t.changes else 2)
+        self.outcome, self.told, self.spot, self.left = m + 2, m + 3, m + 4, m + 5
+        self.copy = m + (6 if t.element else 4 if t.changes else 2)
         self.pointer, self.slice = self.copy + 1, self.copy + 2
+        # of an element: how many bytes before it, where the array begins, and where it begins
+        self.before, self.array, self.item = (self.copy + 2 * output + i for i in (1, 2, 3))
+        self.many = self.copy + 1 + 2 * output + 3 * bool(t.element)
 
     def at(self, local, base):
         return 2 * (self.many - 1 - local) + base
@@ -31,12 +32,10 @@ def entry(t, places):
     """The walk's type, and its steps up to where the parameters stand in their locals."""
     at, many = places.at, places.many
     values = row_of(['vptr b o'] + [p.value for p in t.others])
-    known = [f'(known-work : Triple 𝓤 (C #{t.work.key}) (Work 𝓤 H A at-mem runs))']
-    if t.changes:
-        known += [f'(known-tell : Triple 𝓤 (C #{t.tell.key}) (Tell 𝓤 H A at-mem runs))', f'(known-leave : Triple 𝓤 (C #{t.leave.key}) (Leave 𝓤 H A at-mem runs))']
+    known = [f'(known-{c.alias} : Triple 𝓤 (C #{c.key}) ({c.contract} 𝓤 H A at-mem runs))' for c in t.callees]
     lines = [f'  module _ (C : Calls 𝓤 H) (Λ : Loops 𝓤 H) (fm : FmC 𝓤 H (W .laws) C) {known[0]}' + ('' if t.changes else ' where')]
     if t.changes:
-        lines += [f'      {known[1]} {known[2]} where']
+        lines += [f'      {" ".join(known[1:])} where']
     lines += ['    walk : ' + ''.join(f'{p.fits} → ' for p in t.others) + f'ent 𝓤 (onEntry 𝓤 H A f.signature {lifetimes(t, "κ", True)} {lifetimes(t, "q", True)} a at) (WpFn 𝓤 H C Λ code.function ({values}) Post)']
     steps = ['    walk ' + ''.join(f'{p.name}-fits ' for p in t.others) + '=',
              f'        qed W ((‵ (flft κ q) ⊛ tokens) ∷ ‵ (owns ({"MutRef" if t.changes else "ShrRef"} (named 0) κ T.the-row ∷ {row_of([p.row for p in t.others])}) a at) ∷ []) ∵']
@@ -84,8 +83,35 @@ def last_list(t):
     return f'zs{place(t.output + 1)}' if t.output is not None else ''
 
 
+def asks(callee, kind, x, n, outcome):
+    """The steps from the call of a function that tells a part of the outcome to its result `x`, which says what the part is."""
+    name, alias, said = callee.contract, callee.alias, f'{x} ≡ {callee.says(0, ["r₁"])}'
+    y = x.rstrip('₃₄')
+    return [
+        f'        use1 W (raw ({name} 𝓤 H A at-mem runs .pre (to-{alias} r₁ v₁))) (goes-{alias} r₁ v₁) $',
+        f'        calls-at ! fm ({name} 𝓤 H A at-mem runs) known-{alias} (to-{alias} r₁ v₁) (and-then ! (load ! (from ! (stop !)) (look ! {outcome} refl)) (no-more !)) (λ v{n}.',
+        f'        use1 W (later (some (λ ({y} : {kind.type}). (‵ ftrue ⊛ ‵ ({kind.row} .own {y} (v{n} ∷ []))) ⊛ raw (ensured 𝓤 H A {alias}.ended ({alias}.clauses 𝓤 H A at-mem runs) tt (r₁, tt) tt {y})))) (id⊢ 𝓤 _) $ await ! tt $ pick ! (λ {x}.',
+        f'        split ! $ move ! (1 ∷ []) $ use1 W (raw (fact 𝓤 ({said}))) ({alias}s 𝓤 H A at-mem runs r₁ {x}) $ heard ! ({said}) (λ e{n}. split ! $ drop ! $',
+        f'        peeks ! {kind.row} (Is {kind.row}) (shows 𝓤 H A {kind.row}) {x} (v{n} ∷ []) (λ is{n}.']
+
+
+def stores_element(t, places, cell, base, spot):
+    """The steps from the calls to where the element is stored, and what the state with it owns stands first."""
+    at, e, s = places.at, t.element, t.s
+    word = f'in-word {e.many} (size E′.mir) i tt (below i {spot})'
+    look = lambda local: f'(load ! (from ! (stop !)) (look ! {at(local, base)} refl))'
+    return [
+        f'        rewrite ! {at(places.spot, base)} (λ (u : Val). ‵ (fat fullShare (tyInt w64) l{places.spot} zero u)) (ap only (is₃ .0)) refl $',
+        f'        assigns ! (bin ! {look(places.spot)} (lit ! tt) ({word})) (from ! (stop !)) (init ! {at(places.before, base)} refl (tt, {word})) $',
+        f'        assigns ! (addr ! (from ! (hop ! (look ! {at(1, base)} refl) (fld ! {{τ = tyArray E′.mir {e.many}}} {{d = {e.start}}} (lies .0) (stop !))))) (from ! (stop !)) (init ! {at(places.array, base)} refl (tt, tt)) $',
+        f'        assigns ! (bin ! {look(places.array)} {look(places.before)} tt) (from ! (stop !)) (init ! {at(places.item, base)} refl (tt, tt)) $',
+        f'        assigns ! (of-opd ! {look(places.left)}) (from ! (hop ! (look ! {at(places.item, base)} refl) (stop !)))',
+        f'          (store-elem ! {cell} E.the-field E′.the-field-laws {e.many} ({s} .{e.field}) i r₄ (LL.owed T.the-type T′.the-laws {s} (vals {s}) was{place(e.number)}) (below i {spot}) is₄ (sub ! {e.number} {{τ = rawArray E′.mir {e.many}}} {{d = {e.start}}} (lies .1) (whole !)) ({e.struct.typed("r₄", "is₄")})) $',
+        f'        drop ! $ owned ! T.the-row (Is T.the-row) {t.state.makes} (storing i r₄) _ (made i r₄ v₄ was is₄) $']
+
+
 def walk_of_changed(t):
-    """The borrow is opened, the state copied out, the three calls made, the state stored whole, and the borrow closed at it."""
+    """The borrow is opened, the state copied out, the calls made, the state stored whole or one element of it stored, and the borrow closed at it."""
     places, written = Places(t), t.output is not None
     at, many, s = places.at, places.many, t.s
     lines, steps = entry(t, places)
@@ -95,7 +121,6 @@ def walk_of_changed(t):
     cell = 4 if written else 2
     base = cell + 4
     end = base - 2
-    tell, leave = t.tell.says(0, ['r₁']), t.leave.says(0, ['r₁'])
     answer = t.answer
     steps += [
         f'        move ! ({2 * many} ∷ {2 * many + 1} ∷ {2 * many + 2} ∷ []) $ opens ! tt T.the-row {{h = {s}}} b o (λ vs. spelt ! T.the-row (Is T.the-row) (shows 𝓤 H A T.the-row) vals ({t.state.tells()}) fullShare {s} vs b o $',
@@ -116,30 +141,26 @@ def walk_of_changed(t):
     steps += [
         f'        -- what the outcome owns; the tokens; {"the last list; true; " if written else ""}the cell at {cell}; the open borrow; obs; auth; {places.all(base)}',
         '        peeks ! O.the-row (Is O.the-row) (shows 𝓤 H A O.the-row) r₁ (v₁ ∷ []) (λ is₁.',
-        f'        land ! (from ! (stop !)) (init ! {at(places.outcome, base)} refl ({t.outcome.typed("r₁", "is₁")})) $',
-        '        -- the answer',
-        '        use1 W (raw (Tell 𝓤 H A at-mem runs .pre (to-tell r₁ v₁))) (goes-tell r₁ v₁) $',
-        f'        calls-at ! fm (Tell 𝓤 H A at-mem runs) known-tell (to-tell r₁ v₁) (and-then ! (load ! (from ! (stop !)) (look ! {at(places.outcome, base)} refl)) (no-more !)) (λ v₂.',
-        f'        use1 W (later (some (λ (k : {answer.type}). (‵ ftrue ⊛ ‵ ({answer.row} .own k (v₂ ∷ []))) ⊛ raw (ensured 𝓤 H A tell.ended (tell.clauses 𝓤 H A at-mem runs) tt (r₁, tt) tt k)))) (id⊢ 𝓤 _) $ await ! tt $ pick ! (λ k.',
-        f'        split ! $ move ! (1 ∷ []) $ use1 W (raw (fact 𝓤 (k ≡ {tell}))) (tells 𝓤 H A at-mem runs r₁ k) $ heard ! (k ≡ {tell}) (λ e₂. split ! $ drop ! $',
-        f'        peeks ! {answer.row} (Is {answer.row}) (shows 𝓤 H A {answer.row}) k (v₂ ∷ []) (λ is₂.',
-        f'        land ! (from ! (stop !)) (init ! {at(places.told, base)} refl ({answer.typed("k", "is₂")})) $',
-        '        -- the state',
-        f'        drop ! $ owned ! O.the-row (Is O.the-row) {t.outcome.makes} r₁ _ is₁ $',
-        '        use1 W (raw (Leave 𝓤 H A at-mem runs .pre (to-leave r₁ v₁))) (goes-leave r₁ v₁) $',
-        f'        calls-at ! fm (Leave 𝓤 H A at-mem runs) known-leave (to-leave r₁ v₁) (and-then ! (load ! (from ! (stop !)) (look ! {at(places.outcome, base)} refl)) (no-more !)) (λ v₃.',
-        f'        use1 W (later (some (λ (r : {t.state.type}). (‵ ftrue ⊛ ‵ (T.the-row .own r (v₃ ∷ []))) ⊛ raw (ensured 𝓤 H A leave.ended (leave.clauses 𝓤 H A at-mem runs) tt (r₁, tt) tt r)))) (id⊢ 𝓤 _) $ await ! tt $ pick ! (λ r₃.',
-        f'        split ! $ move ! (1 ∷ []) $ use1 W (raw (fact 𝓤 (r₃ ≡ {leave}))) (leaves 𝓤 H A at-mem runs r₁ r₃) $ heard ! (r₃ ≡ {leave}) (λ e₃. split ! $ drop ! $',
-        '        peeks ! T.the-row (Is T.the-row) (shows 𝓤 H A T.the-row) r₃ (v₃ ∷ []) (λ is₃.',
-        f'        land ! (from ! (stop !)) (store ! {at(places.copy, base)} refl ({typed("r₃", "is₃")})) $',
-        f'        assigns ! (of-opd ! (load ! (from ! (stop !)) (look ! {at(places.copy, base)} refl))) (from ! (hop ! (look ! {at(1, base)} refl) (stop !))) (store-raw ! {cell} refl ({typed("r₃", "is₃")})) $',
+        f'        land ! (from ! (stop !)) (init ! {at(places.outcome, base)} refl ({t.outcome.typed("r₁", "is₁")})) $']
+    results = [('k', places.told, 'the answer')] + [('i', places.spot, 'the place')] * bool(t.element) + [('r₄', places.left, 'the element') if t.element else ('r₃', places.copy, 'the state')]
+    for n, ((callee, kind), (x, local, what)) in enumerate(zip(t.asked, results)):
+        steps += [f'        -- {what}'] + ([f'        drop ! $ owned ! O.the-row (Is O.the-row) {t.outcome.makes} r₁ _ is₁ $'] if n else [])
+        steps += asks(callee, kind, x, '₂₃₄'[n], at(places.outcome, base))
+        steps += [f'        land ! (from ! (stop !)) ({"store" if local == places.copy else "init"} ! {at(local, base)} refl ({kind.typed(x, "is" + "₂₃₄"[n])})) $']
+    same = lambda n, callee: f'(e{n} ∙ ap (λ (m : {t.outcome.type}). {callee.says(0, ["m"])}) {first})'
+    if t.element:
+        steps += stores_element(t, places, cell, base, same('₃', t.asked[1][0]))
+        left, at_left = 'storing i r₄', '(vals (storing i r₄))'
+    else:
+        steps += [f'        assigns ! (of-opd ! (load ! (from ! (stop !)) (look ! {at(places.copy, base)} refl))) (from ! (hop ! (look ! {at(1, base)} refl) (stop !))) (store-raw ! {cell} refl ({typed("r₃", "is₃")})) $']
+        left, at_left = 'r₃', '(v₃ ∷ [])'
+    steps += [
         f'        assigns ! (of-opd ! (load ! (from ! (stop !)) (look ! {at(places.told, base)} refl))) (from ! (stop !)) (init ! {at(0, base)} refl ({answer.typed("k", "is₂")})) $',
-        f'        move ! ({cell} ∷ 0 ∷ {cell + 1} ∷ {cell + 2} ∷ {cell + 3} ∷ []) $ closes ! tt T.the-row r₃ (v₃ ∷ []) b o $',
+        f'        move ! ({cell} ∷ 0 ∷ {cell + 1} ∷ {cell + 2} ∷ {cell + 3} ∷ []) $ closes ! tt T.the-row {f"({left})" if t.element else left} {at_left} b o $',
         f'        -- obs; the borrow; the token; the tokens; {"the last list; true; " if written else ""}_{many - 1} at {end}, .., _0 at {at(0, end)}']
     steps += leaving(places, end)
-    told = f'(e₂ ∙ ap (λ (m : {t.outcome.type}). {t.tell.says(0, ["m"])}) {first})'
-    left = f'(e₃ ∙ ap (λ (m : {t.outcome.type}). {t.leave.says(0, ["m"])}) {first})'
-    steps += [f'        keep ! (0 ∷ 1 ∷ 2 ∷ 3 ∷ {"4 ∷ " if written else ""}[]) $ by ! (exits r₃ k v₂ ' + (f'({last_list(t)}) ' if written else '') + f'{told} {left} ' + ('(e₁ .1) l ' if written else '') + 'is₂)']
+    is_left = f'(λ j. storing ({same("₃", t.asked[1][0])} j) ({same("₄", t.leave)} j))' if t.element else same('₃', t.leave)
+    steps += [f'        keep ! (0 ∷ 1 ∷ 2 ∷ 3 ∷ {"4 ∷ " if written else ""}[]) $ by ! (exits {f"({left})" if t.element else left} k v₂ ' + (f'({last_list(t)}) ' if written else '') + f'{same("₂", t.tell)} {is_left} ' + ('(e₁ .1) l ' if written else '') + 'is₂)']
     return lines + closed(steps)
 
 

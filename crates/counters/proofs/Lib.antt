@@ -2,3 +2,4 @@ pub mod Signed
 pub mod Results
 pub mod PerKey
 pub mod PerPiece
+pub mod InPlace

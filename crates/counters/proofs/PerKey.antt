@@ -87,7 +87,7 @@ module _ (ps : Pieces) (k : ℕ) where
       go true = refl
       go false = refl
 
-  length-after : (e : Executed) (n : ℕ) → length (iter (runEntry ps k) e n .counters .list) ≡ length (e .counters .list)
+  pub length-after : (e : Executed) (n : ℕ) → length (iter (runEntry ps k) e n .counters .list) ≡ length (e .counters .list)
   length-after e n =
       iter-keeps (λ (f : Executed). length (f .counters .list) ≡ length (e .counters .list)) (runEntry ps k) e n refl (λ i f l p. entry-length i f ∙ p)
 

@@ -43,7 +43,7 @@ iter-once {A} f a (suc n) i h o = go (ℕ-discrete i n) (λ l. iter-once f a n i
     go (no d) r = o n (iter f a n) (omega arith) (λ q. d (sym q)) ∙ r (omega (arith, d))
 
 -- more are counted after a number that is
-counted-less : (f : ℕ → Bool) (i n : ℕ) → i < n → f i ≡ true → countBelow f i < countBelow f n
+pub counted-less : (f : ℕ → Bool) (i n : ℕ) → i < n → f i ≡ true → countBelow f i < countBelow f n
 unfolding countBelow
 counted-less f i zero h e = absurd (omega (arith, h))
 counted-less f i (suc n) h e = go (ℕ-discrete i n) (λ l. counted-less f i n l e)

@@ -2,8 +2,7 @@
 -- Assumes nothing.
 use mathlib.Core.Path.{_≡_, refl, ap, _∙_}
 use mathlib.Core.Bool.{Bool, true, false, cond}
-use Prim.Native.Nat.{ℕ, zero, suc, _+_, _≤_}
-use native.Mathlib.Omega.{arith}
+use Prim.Native.Nat.{ℕ, zero, suc, _+_}
 use Rattle.masks.specs.Folds.{iter, countBelow}
 use Rattle.rules.specs.declared.Pieces.{Pieces}
 use Rattle.rules.specs.Pieces.{pieceAt, onShard, piecesOn}
@@ -21,13 +20,6 @@ module _ (ps : Pieces) (k : ℕ) where
       go : (b : Bool) → cond b (runPiece (pieceAt ps i) e) e .values .count ≡ cond b (e .values .count + 1) (e .values .count)
       go true = refl
       go false = refl
-
-  pub entry-count : (i : ℕ) (e : Executed) → runEntry ps k i e .values .count ≤ e .values .count + 1
-  entry-count i e = rw entry-counts (go (onShard ps k i))
-    where
-      go : (b : Bool) → cond b (e .values .count + 1) (e .values .count) ≤ e .values .count + 1
-      go true = omega arith
-      go false = omega arith
 
   pub count-after : (n : ℕ) (e : Executed) → e .values .count ≡ 0 → iter (runEntry ps k) e n .values .count ≡ countBelow (onShard ps k) n
   unfolding iter countBelow

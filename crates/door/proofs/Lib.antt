@@ -1,1 +1,2 @@
 pub mod Unwritten
+pub mod Stored

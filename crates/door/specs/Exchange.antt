@@ -9,7 +9,9 @@ use Rattle.wire.specs.Bytes.{decode}
 use Rattle.wire.specs.Encoding.{Encoding, encode}
 use Rattle.server.specs.declared.Server.{Server}
 use Rattle.server.specs.declared.Served.{Served}
+use Rattle.server.specs.Held.{recordAt}
 use Rattle.server.specs.Serve.{serve}
+use Rattle.server_step.specs.OneStore.{placeOf}
 use Rattle.drive.specs.declared.Drive.{Drive}
 use Rattle.drive.specs.declared.Moved.{Moved}
 use Rattle.drive.specs.declared.Sending.{Sending}
@@ -44,9 +46,12 @@ take s input z =
     let v = serve s (d .message) in
     exchanged s z d v (encode (v .reply) z)
 
--- what code hands on: all but the output
-abbrev pub taken : Exchange → Taken
-taken x = record { answer = x .answer; server = x .server }
+-- what code hands on: the answer, and the record of T, or of any number where T is none: the server after it differs in no other
+abbrev pub told : Exchange → ℕ → Taken
+told x i = record { answer = x .answer; place = i; after = recordAt (x .server) i }
+
+unfoldable pub taken : Server → (input output : List ℕ) → Taken
+taken s input z = told (take s input z) (placeOf (decode input .message .t))
 
 -- ---- a reply to a drive
 

@@ -1,5 +1,7 @@
 // Bytes in, bytes out: a message is decoded and taken by a step, and an answer is encoded. On a refusal of any of these the state and the output stay as they were lent.
 ghost use mathlib.Core.Path.{_≡_};
+ghost use Rattle.rules.specs.Choice.{_if_else_};
+ghost use Rattle.rules.specs.Flags.{there};
 ghost use Rattle.door.specs.Exchange.{taken, take, takeReply, post};
 use crate::Answer;
 use crate::Due;
@@ -8,25 +10,22 @@ use drive::Drive;
 use drive::Moved;
 use server::Server;
 
-// A message to a server, and its reply.
+// A message to a server, and its reply. The server is lent by value and not handed back: what is handed on is the one record to store.
 pub fn take(s: Server, input: &[u8], output: &mut [u8]) -> Taken
-    ensures { λ r. ⌜ (r ≡ taken (take s (now (input .entry)) (now (output .entry))))
+    ensures { λ r. ⌜ (r ≡ taken s (now (input .entry)) (now (output .entry)))
         × (now (output .exit) ≡ take s (now (input .entry)) (now (output .entry)) .output) ⌝ }
 {
     let d = codec::decode(input);
-    let unread = d.refusal != 0;
-    if unread {
-        return Taken {
-            answer: refused(d.refusal),
-            server: s,
-        };
-    }
-    let v = server_step::step(s, d.message);
-    let untaken = v.refusal != 0;
+    let v = server_step::consider(s, d.message);
+    let refusal = first(d.refusal, v.refusal);
+    let place = v.place;
+    let before = v.before;
+    let untaken = refusal != 0;
     if untaken {
         return Taken {
-            answer: refused(v.refusal),
-            server: s,
+            answer: refused(refusal),
+            place: place,
+            after: before,
         };
     }
     let e = codec::encode(v.reply, output);
@@ -34,17 +33,27 @@ pub fn take(s: Server, input: &[u8], output: &mut [u8]) -> Taken
     if unwritten {
         return Taken {
             answer: refused(e.refusal),
-            server: s,
+            place: place,
+            after: before,
         };
     }
-    let server = v.server;
+    let after = v.after;
     Taken {
         answer: Answer {
             refusal: 0,
             length: e.length,
         },
-        server: server,
+        place: place,
+        after: after,
     }
+}
+
+// The first of two refusals, or 0.
+fn first(a: u32, b: u32) -> u32
+    ensures { λ r. ⌜ r ≡ (a if there a else b) ⌝ }
+{
+    let refused = a != 0;
+    if refused { a } else { b }
 }
 
 fn refused(refusal: u32) -> Answer

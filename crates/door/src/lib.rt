@@ -1,5 +1,5 @@
 // The door of the library, by value: what a host is told of the states and bytes that it lends. `station` lends them.
-use server::Server;
+use server::Record;
 
 pub mod exchange; // exchange.rt: bytes in, bytes out
 pub mod readings; // readings.rt: what a server holds, a part at a time
@@ -12,10 +12,11 @@ pub struct Answer {
     pub length: u32,
 }
 
-// What a message leaves at a server: the answer, and the server after it.
+// What a message leaves at a server: the answer, and the one record to store, with its place.
 pub struct Taken {
     pub answer: Answer,
-    pub server: Server,
+    pub place: usize,
+    pub after: Record,
 }
 
 // The message due to a drive's servers: the refusal or 0, how many bytes it has, and the servers, bit s for the server s. All but the refusal is 0 on a refusal.

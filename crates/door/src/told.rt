@@ -6,6 +6,7 @@ use crate::Counted;
 use crate::Taken;
 use server::Begun;
 use server::Ran;
+use server::Record;
 use server::Server;
 
 pub fn begun_refusal(o: Begun) -> u32
@@ -41,8 +42,14 @@ pub fn taken_answer(o: Taken) -> Answer
     o.answer
 }
 
-pub fn taken_server(o: Taken) -> Server
-    ensures { λ r. ⌜ r ≡ o .server ⌝ }
+pub fn taken_place(o: Taken) -> usize
+    ensures { λ r. ⌜ r ≡ o .place ⌝ }
 {
-    o.server
+    o.place
+}
+
+pub fn taken_record(o: Taken) -> Record
+    ensures { λ r. ⌜ r ≡ o .after ⌝ }
+{
+    o.after
 }

@@ -9,7 +9,7 @@ use lib.Dec.{eqb, ltb, leb, lit≤}
 use lib.ListN.{getD, set, replicate}
 use Rattle.masks.specs.Bits.{In, has, none, union}
 use Rattle.masks.specs.Folds.{countBelow, unionOf}
-use Rattle.masks.proofs.Bools.{and-yes, and-yes-l, and-yes-r, or-yes-r, not-yes, true-and-false}
+use Rattle.masks.proofs.Bools.{and-yes, and-yes-l, and-yes-r, or-yes-r, not-yes, true-and-false, then-yes, yes-then}
 use Rattle.masks.proofs.Laws.{has-in, in-has, not-has, in-lt, not-in-none}
 use Rattle.masks.proofs.FoldLaws.{in-unions, unions-cong, iter-keeps, no-all, mask-bound}
 use Rattle.rules.specs.declared.Pieces.{Pieces}
@@ -31,7 +31,6 @@ use Rattle.drive.specs.Hear.{says}
 use Rattle.drive.proofs.Passed.{accepted, takes}
 use Rattle.drive.proofs.FormParts.{Formed}
 use Rattle.drive.proofs.Decided.{Decision, highest2, equal2, again1, quick3, union2, voted3, decision}
-use Rattle.drive.proofs.Implied.{then-yes, yes-then}
 use Rattle.drive.proofs.HighestAccepted.{highest-accepted}
 
 -- ---- with no answers counted

@@ -6,6 +6,7 @@ use Prim.Native.Nat.{ℕ, _<_}
 use native.Mathlib.Omega.{arith}
 use borrow.Author.Tests.{eqb-true, eqb-false, ltb-true}
 use lib.Dec.{eqb, ltb, leb, lit<}
+use Rattle.masks.proofs.Bools.{yes-then}
 use Rattle.masks.specs.Bits.{has}
 use Rattle.masks.specs.Folds.{countBelow}
 use Rattle.masks.proofs.FoldLaws.{all-of}
@@ -13,7 +14,6 @@ use Rattle.rules.specs.Cluster.{serverOf}
 use Rattle.drive.specs.declared.Drive.{Drive}
 use Rattle.drive.specs.Held.{counted, touched, toPhase, toPhase1, answerAt}
 use Rattle.drive.specs.Decide.{allAnswered, countedIn, twoIn, twoInEach, decided, equalWords, highest, unions, decide0, decide1, decide2, decide}
-use Rattle.drive.proofs.Implied.{yes-then}
 use Rattle.drive.proofs.QuorumOfTwo.{three-count}
 use Rattle.drive.proofs.FastPath.{everyone}
 

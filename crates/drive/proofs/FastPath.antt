@@ -6,13 +6,12 @@ use native.Mathlib.Omega.{arith}
 use borrow.Author.Tests.{eqb-true}
 use lib.Dec.{eqb}
 use Rattle.masks.specs.Folds.{allBelow}
-use Rattle.masks.proofs.Bools.{and-yes, and-yes-l, and-yes-r}
+use Rattle.masks.proofs.Bools.{and-yes, and-yes-l, and-yes-r, then-yes}
 use Rattle.masks.proofs.FoldLaws.{all-at}
 use Rattle.rules.specs.Cluster.{serverOf}
 use Rattle.drive.specs.declared.Drive.{Drive}
 use Rattle.drive.specs.Held.{answerAt, counted, touched, addressed}
 use Rattle.drive.specs.Decide.{answered, allAnswered, hasWord, wordThere, agree, equalIn, equalWords, decide1, decide}
-use Rattle.drive.proofs.Implied.{then-yes}
 
 module _ (d : Drive) where
   -- ---- the tests in words

@@ -11,7 +11,7 @@ use lib.Dec.{eqb, ltb, leb, lit≤}
 use lib.ListN.{length, getD, set}
 use lib.Seq.{getD-set-same, getD-set-other, set-out}
 use Rattle.masks.specs.Bits.{has}
-use Rattle.masks.proofs.Bools.{and-yes, and-yes-l, and-yes-r, or-no-l, or-no-r, or-yes-r, not-yes, not-no}
+use Rattle.masks.proofs.Bools.{and-yes, and-yes-l, and-yes-r, or-no-l, or-no-r, or-yes-r, not-yes, not-no, yes-then, one-no}
 use Rattle.rules.specs.declared.Pieces.{Pieces}
 use Rattle.rules.specs.Choice.{_if_else_}
 use Rattle.rules.specs.Flags.{there, implies}
@@ -33,9 +33,8 @@ use Rattle.drive.specs.Decide.{answered, allAnswered, twoIn, twoInEach, 
 use Rattle.drive.specs.Form.{numbersFormed, ballotsFormed, wordFormed, acceptedFormed, answerFormed, tooFew, setFormed, formed}
 use Rattle.drive.specs.Hear.{says, answerOf, settle, count, hear, moved, refused}
 use Rattle.drive.specs.Host.{unless, startRefusal, start, recoverRefusal, recover, above, againRefusal, again, moveOnRefusal, moveOn}
-use Rattle.drive.proofs.Passed.{not-first, one-no, Passed, Counts, Kind, prepared, preAccepted, accepted, Hears, isDone, isBehind, isOK, Replied, refuses, takes, replied}
+use Rattle.drive.proofs.Passed.{not-first, Passed, Counts, Kind, prepared, preAccepted, accepted, Hears, isDone, isBehind, isOK, Replied, refuses, takes, replied}
 use Rattle.drive.proofs.FormParts.{Formed, formed-parts, parts-formed, phase-below}
-use Rattle.drive.proofs.Implied.{yes-then}
 use Rattle.drive.proofs.DecideKeepsForm.{Loose, loosen, no-answers, few, decide-formed, done-formed}
 
 -- ---- a drive that begins

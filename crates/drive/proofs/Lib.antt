@@ -1,4 +1,3 @@
-pub mod Implied
 pub mod QuorumOfTwo
 pub mod FastPath
 pub mod HighestAccepted

@@ -1,12 +1,12 @@
 -- A reply that a drive does not refuse, and what it is to the drive: an OK of its phase, Done or Behind. Assumes nothing.
 use mathlib.Core.Path.{_≡_, refl, sym, subst}
 use mathlib.Core.Logic.{_⊎_, inl, inr, _≢_}
-use mathlib.Core.Bool.{Bool, true, false, not, cond, _&&_, _||_, false≢true}
+use mathlib.Core.Bool.{Bool, true, false, not, cond, _&&_, _||_}
 use Prim.Native.Nat.{ℕ, _<_}
 use native.Mathlib.Omega.{arith}
 use lib.Dec.{eqb}
 use borrow.Author.Tests.{eqb-true, eqb-false, ltb-false}
-use Rattle.masks.proofs.Bools.{not-no, or-no-l, or-no-r, or-yes}
+use Rattle.masks.proofs.Bools.{not-no, or-no-l, or-no-r, or-yes, one-no}
 use Rattle.rules.specs.Cluster.{badNumber, badServer}
 use Rattle.rules.specs.Flags.{there}
 use Rattle.rules.specs.Ballots.{badBallot}
@@ -64,11 +64,6 @@ pub data Hears (d : Drive) (m : Message) : Drive → Type 0 where
   isDone : m .code ≡ Done → m .t ≡ d .t → d .phase ≢ 3 → Hears d m (toPhase 3 d (m .set))
   isBehind : m .code ≡ Behind → m .t ≡ d .t → d .phase ≢ 3 → Hears d m (withPromise d (m .promise))
   isOK : Kind d m → Counts d m → Hears d m (count d (m .server) (answerOf m))
-
--- of two that are not both, the one is: the other is not
-pub one-no : (a b : Bool) → (a && b) ≡ false → a ≡ true → b ≡ false
-one-no true b e h = e
-one-no false b e h = absurd (false≢true h)
 
 both-no : (a b : Bool) → (a && not b) ≡ false → a ≡ true → b ≡ true
 both-no a b e h = not-no b (one-no a (not b) e h)

@@ -3,6 +3,7 @@ use mathlib.Core.Path.{_≡_, refl}
 use mathlib.Core.Bool.{Bool, true, false, cond, false≢true}
 use Prim.Native.Nat.{ℕ, _+_, _<_}
 use lib.Dec.{leb, lit<}
+use Rattle.masks.proofs.Bools.{then-yes}
 use Rattle.masks.specs.Bits.{has}
 use Rattle.masks.specs.Folds.{countBelow}
 use Rattle.masks.proofs.FoldLaws.{all-at, mask-bound}
@@ -12,7 +13,6 @@ use Rattle.rules.specs.Pieces.{shardsOf, touches}
 use Rattle.drive.specs.declared.Drive.{Drive}
 use Rattle.drive.specs.Held.{touched}
 use Rattle.drive.specs.Decide.{countedIn, twoIn, twoInEach}
-use Rattle.drive.proofs.Implied.{then-yes}
 
 -- a touched shard is one of four
 pub shard-below : (ps : Pieces) (k : ℕ) → has (shardsOf ps) k ≡ true → k < 4

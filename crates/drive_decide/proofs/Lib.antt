@@ -1,2 +1,4 @@
 pub mod Turning
 pub mod Highest
+pub mod Wording
+pub mod Choosing

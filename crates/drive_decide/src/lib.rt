@@ -2,7 +2,7 @@
 ghost use mathlib.Core.Path.{_≡_};
 ghost use Rattle.drive.specs.Held.{noAnswer};
 ghost use Rattle.drive.specs.Decide.{allAnswered};
-ghost use Rattle.drive_decide.specs.Turns.{to, turn0, turn1, turnOf};
+ghost use Rattle.drive_decide.specs.Turns.{to, turn0, turn1, turnBy, turnOf};
 use drive::Answer;
 use drive::Drive;
 use rules::MaybeSet;
@@ -17,6 +17,24 @@ pub mod words; // words.rt: the arrival words, whether they are equal, and their
 pub struct Turn {
     pub phase: u32,
     pub chosen: MaybeSet,
+}
+
+// What the words of one shard say: their union, and whether every counted answer has one and they are equal.
+pub struct InShard {
+    pub union: u64,
+    pub equal: bool,
+}
+
+// The same of all shards, with a word for each.
+pub struct InShards {
+    pub union: Set,
+    pub equal: bool,
+}
+
+// Whether some answer holds an accepted set, and the one of the highest ballot.
+pub struct Vote {
+    pub held: bool,
+    pub set: Set,
 }
 
 // The answer of a server that is not counted.
@@ -90,26 +108,27 @@ pub fn decide2(v: Set) -> Turn
     to(3, v)
 }
 
+// By phase, from the accepted set of the highest ballot, the words, and the set that the drive has.
+pub fn choose(phase: u32, first: bool, all: bool, vote: Vote, words: InShards, chosen: Set) -> Turn
+    ensures { λ r. ⌜ r ≡ turnBy phase first all vote words chosen ⌝ }
+{
+    let preparing = phase == 0;
+    let arriving = phase == 1;
+    if preparing {
+        return decide0(vote.held, vote.set, words.equal, words.union);
+    }
+    if arriving {
+        return decide1(first, all, words.equal, words.union);
+    }
+    decide2(chosen)
+}
+
 // What the drive decides, where `all` says that all servers answered.
 pub fn decide(d: Drive, all: bool) -> Turn
     requires { ⌜ all ≡ allAnswered d ⌝ }
     ensures { λ r. ⌜ r ≡ turnOf d ⌝ }
 {
-    let preparing = d.phase == 0;
-    let arriving = d.phase == 1;
-    if preparing {
-        let best = votes::highest(d);
-        let at = best % 12;
-        let a = d.answers[at];
-        return decide0(
-            best < 12,
-            a.accepted.set,
-            words::equal_words(d),
-            words::unions(d),
-        );
-    }
-    if arriving {
-        return decide1(d.ballot == 0, all, words::equal_words(d), words::unions(d));
-    }
-    decide2(d.chosen.set)
+    let vote = votes::best(d);
+    let words = words::of_drive(d);
+    choose(d.phase, d.ballot == 0, all, vote, words, d.chosen.set)
 }

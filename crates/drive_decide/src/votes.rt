@@ -4,9 +4,12 @@ ghost use mathlib.Core.Bool.{not};
 ghost use lib.Dec.{eqb, ltb};
 ghost use Rattle.rules.specs.Choice.{_if_else_};
 ghost use Rattle.drive.specs.Decide.{hasAccepted, highest};
+ghost use Rattle.drive_decide.specs.Turns.{nobody, voteOf};
+use crate::Vote;
 use drive::Answer;
 use drive::Drive;
 use drive_form::answers::has_accepted;
+use rules::Set;
 
 // Of the server `best` so far, or 12 for none, with its answer `b`, and the server `s` with its answer `a`: who holds the higher accepted ballot; of equals `best`.
 fn better(s: usize, a: Answer, best: usize, b: Answer) -> usize
@@ -41,4 +44,34 @@ pub fn highest(d: Drive) -> usize
         s += 1;
     }
     best
+}
+
+// No accepted set.
+pub fn nobody() -> Vote
+    ensures { λ r. ⌜ r ≡ nobody ⌝ }
+{
+    let none = Set {
+        w0: 0,
+        w1: 0,
+        w2: 0,
+        w3: 0,
+    };
+    Vote {
+        held: false,
+        set: none,
+    }
+}
+
+// The accepted set of the highest ballot.
+pub fn best(d: Drive) -> Vote
+    ensures { λ r. ⌜ r ≡ voteOf d ⌝ }
+{
+    let best = highest(d);
+    let at = best % 12;
+    let a = d.answers[at];
+    let set = a.accepted.set;
+    Vote {
+        held: best < 12,
+        set: set,
+    }
 }

@@ -1,32 +1,23 @@
 // The arrival words of the counted answers: whether each is there, whether they are equal within each shard, and their union.
 ghost use mathlib.Core.Path.{_≡_};
 ghost use mathlib.Core.Bool.{_&&_};
-ghost use Prim.Native.Nat.{_<_};
 ghost use lib.Dec.{eqb};
-ghost use Rattle.masks.specs.Folds.{allBelow};
-ghost use Rattle.rules.specs.Choice.{_if_else_};
 ghost use Rattle.rules.specs.Flags.{there, implies};
-ghost use Rattle.drive.specs.Decide.{hasWord, wordThere, equalIn, equalWords, unionIn, unions};
+ghost use Rattle.drive.specs.Decide.{hasWord};
+ghost use Rattle.drive_decide.specs.Turns.{inShard, inAll, wordsOf};
+use crate::InShard;
+use crate::InShards;
 use drive::Answer;
 use drive::Drive;
 use drive_form::answers::has_word;
+use drive_form::answers::word_of;
 use rules::Set;
-use rules::cluster::REPLICAS;
-use rules::cluster::SHARDS;
-use rules::cluster::server_of;
 
-// Every counted answer has an arrival word.
-fn words_there(d: Drive) -> bool
-    ensures { λ r. ⌜ r ≡ allBelow (wordThere d) 12 ⌝ }
+// The answer has a word, if it is counted.
+fn said(a: Answer) -> bool
+    ensures { λ r. ⌜ r ≡ implies (there (a .counted)) (hasWord a) ⌝ }
 {
-    let mut held = true;
-    let mut s: usize = 0;
-    while s < 12 {
-        let a = d.answers[s];
-        held = held & (!(a.counted != 0) | has_word(a));
-        s += 1;
-    }
-    held
+    !(a.counted != 0) | has_word(a)
 }
 
 // Two words are equal, if both are counted.
@@ -36,69 +27,45 @@ fn agree(a: Answer, b: Answer) -> bool
     !((a.counted != 0) & (b.counted != 0)) | (a.arrival.word == b.arrival.word)
 }
 
-// The words of shard `k` are equal.
-fn equal_in(d: Drive, k: u32) -> bool
-    requires { ⌜ k < 4 ⌝ }
-    ensures { λ r. ⌜ r ≡ equalIn d k ⌝ }
+// What the three answers of a shard say. Where none is counted it is nothing.
+pub fn in_shard(a: Answer, b: Answer, c: Answer) -> InShard
+    ensures { λ r. ⌜ r ≡ inShard a b c ⌝ }
 {
-    let i = server_of(k, 0) as usize;
-    let j = server_of(k, 1) as usize;
-    let l = server_of(k, 2) as usize;
-    let a = d.answers[i];
-    let b = d.answers[j];
-    let c = d.answers[l];
-    agree(a, b) & agree(a, c) & agree(b, c)
+    let silent = !(a.counted != 0) & !(b.counted != 0) & !(c.counted != 0);
+    if silent {
+        return InShard {
+            union: 0,
+            equal: true,
+        };
+    }
+    InShard {
+        union: word_of(a) | word_of(b) | word_of(c),
+        equal: said(a) & said(b) & said(c) & (agree(a, b) & agree(a, c) & agree(b, c)),
+    }
 }
 
-// Every answer has a word, and the words are equal within each shard.
-pub fn equal_words(d: Drive) -> bool
-    ensures { λ r. ⌜ r ≡ equalWords d ⌝ }
+// What the four shards say.
+pub fn in_all(k0: InShard, k1: InShard, k2: InShard, k3: InShard) -> InShards
+    ensures { λ r. ⌜ r ≡ inAll k0 k1 k2 k3 ⌝ }
 {
-    let held = words_there(d);
-    let mut equal = true;
-    let mut k: u32 = 0;
-    while k < SHARDS {
-        equal = equal & equal_in(d, k);
-        k += 1;
+    InShards {
+        union: Set {
+            w0: k0.union,
+            w1: k1.union,
+            w2: k2.union,
+            w3: k3.union,
+        },
+        equal: k0.equal & k1.equal & k2.equal & k3.equal,
     }
-    held & equal
 }
 
-// The word of a counted answer, or nothing.
-fn word_of(a: Answer) -> u64
-    ensures { λ r. ⌜ r ≡ (a .arrival .word if hasWord a else 0) ⌝ }
+// What the words of a drive say.
+pub fn of_drive(d: Drive) -> InShards
+    ensures { λ r. ⌜ r ≡ wordsOf d ⌝ }
 {
-    let held = has_word(a);
-    if held {
-        return a.arrival.word;
-    }
-    0
-}
-
-// The union of the words of shard `k`.
-fn union_in(d: Drive, k: u32) -> u64
-    requires { ⌜ k < 4 ⌝ }
-    ensures { λ r. ⌜ r ≡ unionIn d k ⌝ }
-{
-    let mut w: u64 = 0;
-    let mut r: u32 = 0;
-    while r < REPLICAS {
-        let s = server_of(k, r) as usize;
-        let a = d.answers[s];
-        w = w | word_of(a);
-        r += 1;
-    }
-    w
-}
-
-// The union per shard of the counted words.
-pub fn unions(d: Drive) -> Set
-    ensures { λ r. ⌜ r ≡ unions d ⌝ }
-{
-    Set {
-        w0: union_in(d, 0),
-        w1: union_in(d, 1),
-        w2: union_in(d, 2),
-        w3: union_in(d, 3),
-    }
+    let k0 = in_shard(d.answers[0], d.answers[1], d.answers[2]);
+    let k1 = in_shard(d.answers[3], d.answers[4], d.answers[5]);
+    let k2 = in_shard(d.answers[6], d.answers[7], d.answers[8]);
+    let k3 = in_shard(d.answers[9], d.answers[10], d.answers[11]);
+    in_all(k0, k1, k2, k3)
 }

@@ -4,21 +4,32 @@ ghost use Prim.Native.Nat.{_<_};
 ghost use Rattle.masks.specs.Bits.{within};
 ghost use Rattle.masks.specs.Folds.{allBelow};
 ghost use Rattle.drive.specs.Due.{serversOf};
-ghost use Rattle.drive_form.specs.Parts.{twoFrom, enough};
-use rules::cluster::SHARDS;
-use rules::cluster::server_of;
+ghost use Rattle.drive_form.specs.Parts.{withShard, pairs, twoFrom, enough};
+
+// The first server of each shard.
+const FIRSTS: u64 = 0b001_001_001_001;
+
+// w and, where shard `k` is touched, its three servers.
+fn with_shard(w: u64, shards: u64, k: usize) -> u64
+    requires { ⌜ k < 4 ⌝ }
+    ensures { λ r. ⌜ r ≡ withShard shards k w ⌝ }
+{
+    let first = 3 * k;
+    let touched = masks::has(shards, k);
+    if touched {
+        return masks::insert(masks::insert(masks::insert(w, first), first + 1), first + 2);
+    }
+    w
+}
 
 // The servers of the touched shards.
 pub fn servers_of(shards: u64) -> u64
     ensures { λ r. ⌜ r ≡ serversOf shards ⌝ }
 {
-    let mut w: u64 = 0;
-    let mut s: usize = 0;
-    while s < 12 {
-        w = masks::put(w, s, masks::has(shards, s / 3));
-        s += 1;
-    }
-    w
+    let a = with_shard(0, shards, 0);
+    let b = with_shard(a, shards, 1);
+    let c = with_shard(b, shards, 2);
+    with_shard(c, shards, 3)
 }
 
 // All servers of the touched shards answered.
@@ -28,28 +39,23 @@ pub fn all_answered(shards: u64, answered: u64) -> bool
     masks::within(servers_of(shards), answered)
 }
 
-// Two servers of shard `k` answered, if it is touched.
-fn two_in(shards: u64, answered: u64, k: u32) -> bool
-    requires { ⌜ k < 4 ⌝ }
-    ensures { λ r. ⌜ r ≡ twoFrom shards answered k ⌝ }
+// At the first server of a shard: two at least of its three are in w.
+fn pairs(w: u64) -> u64
+    ensures { λ r. ⌜ r ≡ pairs w ⌝ }
 {
-    let a = masks::has(answered, server_of(k, 0) as usize);
-    let b = masks::has(answered, server_of(k, 1) as usize);
-    let c = masks::has(answered, server_of(k, 2) as usize);
-    !masks::has(shards, k as usize) | ((a & b) | (a & c) | (b & c))
+    let second = w >> 1;
+    let third = w >> 2;
+    masks::union(
+        masks::union(masks::both(w, second), masks::both(w, third)),
+        masks::both(second, third),
+    )
 }
 
 // Two of each touched shard answered.
 pub fn two_in_each(shards: u64, answered: u64) -> bool
     ensures { λ r. ⌜ r ≡ allBelow (twoFrom shards answered) 4 ⌝ }
 {
-    let mut enough = true;
-    let mut k: u32 = 0;
-    while k < SHARDS {
-        enough = enough & two_in(shards, answered, k);
-        k += 1;
-    }
-    enough
+    masks::within(masks::both(servers_of(shards), FIRSTS), pairs(answered))
 }
 
 // The answers decide without "move on".

@@ -1,28 +1,26 @@
 // The state form of a drive, and whether its counted answers decide.
 ghost use mathlib.Core.Path.{_≡_};
 ghost use Prim.Native.Nat.{_<_};
-ghost use Rattle.drive.specs.Held.{touched};
 ghost use Rattle.drive.specs.Form.{formed};
-ghost use Rattle.drive_form.specs.Parts.{numbersKept, ballotsKept, setKept, atFirst, further, walkedTo, formedBy};
+ghost use Rattle.drive_form.specs.Parts.{numbersKept, ballotsKept, headKept, setKept, atFirst, further, walkedTo, answersKept, formedBy};
 use drive::Answer;
 use drive::Drive;
 use rules::MaybeSet;
-use rules::Pieces;
 use rules::ballots::bad_ballot;
 use rules::ballots::may_use;
 use rules::cluster::LAST_PHASE;
 use rules::cluster::bad_coordinator;
 use rules::cluster::bad_number;
 use rules::sets::bad_set;
-use rules::transaction::pieces_kept;
-use rules::transaction::shards_of;
+use rules::transaction::touched;
 
 pub mod answers; // answers.rt: what one answer holds, and its form
 pub mod counts; // counts.rt: whether the servers that answered decide
 
-// What a walk of the answers finds: the servers counted, and whether every counted answer is in form.
+// What a walk of the answers finds: the servers counted, what is in any of their arrival words, and whether every accepted ballot and set is in form.
 pub struct Walked {
     pub answered: u64,
+    pub words: u64,
     pub kept: bool,
 }
 
@@ -40,8 +38,24 @@ fn ballots_formed(t: u32, coordinator: u32, phase: u32, ballot: u32, seen: u32) 
     may_use(coordinator, t, ballot) & (!(phase == 0) | !(ballot == 0)) & !bad_ballot(seen)
 }
 
+// All that is not an answer or a set, where the pieces touch the shards in `shards`: none if they break their rule.
+pub fn head_formed(
+    t: u32,
+    coordinator: u32,
+    ballot: u32,
+    phase: u32,
+    seen: u32,
+    shards: u64,
+) -> bool
+    ensures { λ r. ⌜ r ≡ headKept t coordinator ballot phase seen shards ⌝ }
+{
+    numbers_formed(t, coordinator, phase)
+        & !masks::is_empty(shards)
+        & ballots_formed(t, coordinator, phase, ballot, seen)
+}
+
 // A set is held exactly in phases 2 and 3, and keeps rule 3.
-fn set_formed(t: u32, shards: u64, phase: u32, chosen: MaybeSet) -> bool
+pub fn set_formed(t: u32, shards: u64, phase: u32, chosen: MaybeSet) -> bool
     ensures { λ r. ⌜ r ≡ setKept t shards phase chosen ⌝ }
 {
     let held = chosen.some != 0;
@@ -58,6 +72,7 @@ pub fn at_first() -> Walked
 {
     Walked {
         answered: 0,
+        words: 0,
         kept: true,
     }
 }
@@ -67,16 +82,31 @@ pub fn further(l: Walked, t: u32, shards: u64, phase: u32, s: usize, a: Answer) 
     requires { ⌜ s < 12 ⌝ }
     ensures { λ r. ⌜ r ≡ further t shards phase s a l ⌝ }
 {
-    Walked {
-        answered: masks::put(l.answered, s, a.counted != 0),
-        kept: l.kept & answers::answer_formed(t, shards, phase, s, a),
+    let counted = a.counted != 0;
+    if counted {
+        return Walked {
+            answered: masks::insert(l.answered, s),
+            words: masks::union(l.words, answers::word_of(a)),
+            kept: l.kept & answers::accepted_formed(t, shards, phase, a),
+        };
     }
+    l
+}
+
+// The counted servers, and what is in any of their words: from touched servers only, none in phase 3, no word with the number itself, and too few to decide.
+pub fn answers_formed(t: u32, phase: u32, shards: u64, answered: u64, words: u64) -> bool
+    ensures { λ r. ⌜ r ≡ answersKept t phase shards answered words ⌝ }
+{
+    let last = phase == 3;
+    masks::within(answered, counts::servers_of(shards))
+        & (!last | masks::is_empty(answered))
+        & (!(phase < 2) | !masks::has(words, t as usize))
+        & (last | !counts::decided(phase, shards, answered))
 }
 
 // A walk of all answers.
 pub fn walk(d: Drive, shards: u64) -> Walked
-    requires { ⌜ shards ≡ touched d ⌝ }
-    ensures { λ r. ⌜ r ≡ walkedTo d 12 ⌝ }
+    ensures { λ r. ⌜ r ≡ walkedTo d shards 12 ⌝ }
 {
     let mut l = at_first();
     let mut s: usize = 0;
@@ -95,18 +125,15 @@ pub fn formed_by(
     ballot: u32,
     phase: u32,
     seen: u32,
-    pieces: Pieces,
     chosen: MaybeSet,
     shards: u64,
     l: Walked,
 ) -> bool
-    ensures { λ r. ⌜ r ≡ formedBy t coordinator ballot phase seen pieces chosen shards l ⌝ }
+    ensures { λ r. ⌜ r ≡ formedBy t coordinator ballot phase seen chosen shards l ⌝ }
 {
-    numbers_formed(t, coordinator, phase)
-        & pieces_kept(pieces)
-        & ballots_formed(t, coordinator, phase, ballot, seen)
+    head_formed(t, coordinator, ballot, phase, seen, shards)
+        & answers_formed(t, phase, shards, l.answered, l.words)
         & l.kept
-        & ((phase == 3) | !counts::decided(phase, shards, l.answered))
         & set_formed(t, shards, phase, chosen)
 }
 
@@ -114,7 +141,7 @@ pub fn formed_by(
 pub fn formed(d: Drive) -> bool
     ensures { λ r. ⌜ r ≡ formed d ⌝ }
 {
-    let shards = shards_of(d.pieces);
+    let shards = touched(d.pieces);
     let l = walk(d, shards);
     formed_by(
         d.t,
@@ -122,7 +149,6 @@ pub fn formed(d: Drive) -> bool
         d.ballot,
         d.phase,
         d.seen,
-        d.pieces,
         d.chosen,
         shards,
         l,

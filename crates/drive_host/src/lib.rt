@@ -23,8 +23,8 @@ use rules::ballots::origin;
 use rules::cluster::bad_coordinator;
 use rules::cluster::bad_number;
 use rules::transaction::pieces_kept;
-use rules::transaction::shards_of;
 use rules::transaction::too_many;
+use rules::transaction::touched;
 
 pub mod order; // order.rt: the refusals of an event on a held drive, in their order
 pub mod sending; // sending.rt: the message due, and to whom
@@ -174,7 +174,7 @@ pub fn again(d: Drive) -> Moved
 pub fn move_on(d: Drive) -> Moved
     ensures { λ r. ⌜ r ≡ moveOn d ⌝ }
 {
-    let shards = shards_of(d.pieces);
+    let shards = touched(d.pieces);
     let l = walk(d, shards);
     let formed = formed_by(
         d.t,
@@ -182,7 +182,6 @@ pub fn move_on(d: Drive) -> Moved
         d.ballot,
         d.phase,
         d.seen,
-        d.pieces,
         d.chosen,
         shards,
         l,

@@ -1,8 +1,8 @@
 -- The refusals in two parts are the refusals of `drive` in its order, and what holds of a reply that is not refused. Assumes nothing.
-use mathlib.Core.Path.{_≡_, refl, sym, ap, ap₂, _∙_}
-use mathlib.Core.Bool.{Bool, true, false, not, _&&_, _||_}
+use mathlib.Core.Path.{_≡_, refl, sym, subst, _∙_}
+use mathlib.Core.Bool.{Bool, true, false, not, _&&_, _||_, or-false}
 use mathlib.Core.Logic.{⊎-elim}
-use Prim.Native.Nat.{ℕ, _<_, _≤_}
+use Prim.Native.Nat.{ℕ, _<_}
 use native.Mathlib.Decide.{decLt}
 use native.Mathlib.Omega.{arith}
 use borrow.Author.Tests.{eqb-true, leb-false, lt-ltb, le-ltb}
@@ -16,34 +16,35 @@ use Rattle.rules.specs.Choice.{_if_else_}
 use Rattle.rules.specs.Flags.{there}
 use Rattle.rules.specs.Cluster.{badNumber, badServer}
 use Rattle.rules.specs.Ballots.{badBallot}
+use Rattle.rules.specs.Pieces.{touchedBy}
+use Rattle.rules.proofs.TouchedWord.{kept-word}
 use Rattle.wire.specs.declared.Message.{Message}
-use Rattle.wire.specs.Codes.{shapeOf, driveTakes, Prepare, Done, Behind}
+use Rattle.wire.specs.Codes.{shapeOf, driveTakes, Prepare, Done}
 use Rattle.wire.specs.Faults.{badNumbers, badPieces, badSets, overCount}
 use Rattle.drive.specs.declared.Drive.{Drive}
 use Rattle.drive.specs.Held.{noAnswer, counted, touched}
 use Rattle.drive.specs.Form.{formed}
-use Rattle.drive.specs.Hear.{notTaken, misplaced, otherPieces, refusal}
+use Rattle.drive.specs.Hear.{notTaken, otherPhase, misplaced, otherPieces, refusal}
+use Rattle.drive.proofs.FormParts.{formed-parts}
 use Rattle.drive_form.specs.declared.Walked.{Walked}
 use Rattle.drive_form.specs.Parts.{walkedTo, formedBy}
 use Rattle.drive_form.proofs.Parts.{formed-by}
-use Rattle.drive_step.specs.Refusals.{misplacedBy, otherPiecesBy, faultOf, placeOf, firstOf}
+use Rattle.drive_step.specs.Refusals.{badHead, elsewhere, badHeld, answerBy, doneBy, judgedBy, firstOf}
 
--- ---- the order
+-- ---- the codes of a server's reply
 
-in-order : (formed b12 b1 b2 : Bool) (place : ℕ)
-    → firstOf formed (12 if b12 else 1 if b1 else 2 if b2 else 0) place ≡ (13 if not formed else 12 if b12 else 1 if b1 else 2 if b2 else place)
-unfolding firstOf
-in-order false b12 b1 b2 p = refl
-in-order true true b1 b2 p = refl
-in-order true false true b2 p = refl
-in-order true false false true p = refl
-in-order true false false false p = refl
-
-none-fires : (b13 b12 b1 : Bool) (rest : ℕ) → (13 if b13 else 12 if b12 else 1 if b1 else rest) ≡ 0 → (b12 ≡ false) × (b1 ≡ false)
-none-fires true b12 b1 rest e = absurd (omega arith)
-none-fires false true b1 rest e = absurd (omega arith)
-none-fires false false true rest e = absurd (omega arith)
-none-fires false false false rest e = (refl, refl)
+served : (P : ℕ → Type 0) → P 16 → P 17 → P 19 → P 21 → (k : ℕ) → driveTakes k ≡ true → eqb k Done ≡ false → P k
+served P p16 p17 p19 p21 k e done =
+    ⊎-elim
+    (λ p. ⊎-elim
+    (λ q. ⊎-elim (λ r. ⊎-elim (at 16 p16) (at 17 p17) (or-yes (eqb k 16) (eqb k 17) r)) (at 19 p19) (or-yes (eqb k 16 || eqb k 17) (eqb k 19) q))
+    (λ q. absurd (true-and-false q done))
+    (or-yes (eqb k 16 || eqb k 17 || eqb k 19) (eqb k 20) p))
+    (at 21 p21)
+    (or-yes (eqb k 16 || eqb k 17 || eqb k 19 || eqb k 20) (eqb k 21) e)
+  where
+    at : (a : ℕ) → P a → eqb k a ≡ true → P k
+    at a p q = subst P (sym (eqb-true k a q)) p
 
 -- ---- at a drive
 
@@ -59,50 +60,99 @@ module _ (d : Drive) (full : length (d .answers) ≡ 12) (m : Message) where
       go (yes p) = rw (lt-ltb s 12 p)
       go (no p) = rw (le-ltb s 12 (omega (arith, p)), List·getD-eq-default (d .answers) noAnswer {n = s} (omega (arith, p, full)))
 
-  misplaced-by : misplacedBy (d .t) (d .ballot) (d .phase) (touched d) counts m ≡ misplaced d m
-  unfolding misplacedBy misplaced
-  misplaced-by = rw (counted-by (m .server))
+  -- the tests of `drive`, in its order
+  abbrev inOrder : ℕ
+  inOrder =
+      12 if notTaken m
+      else 1 if badNumbers m
+      else 2 if badPieces m
+      else 8 if misplaced d m
+      else 5 if otherPieces d m
+      else 3 if badSets (touched d) m
+      else 0
 
-  pub refusal-by : firstOf (formed d) (faultOf m) (placeOf (d .t) (d .ballot) (d .phase) (d .pieces) (touched d) counts m) ≡ refusal d m
-  unfolding faultOf placeOf refusal otherPiecesBy otherPieces
-  refusal-by =
-      rw misplaced-by (in-order (formed d) (notTaken m) (badNumbers m) (badPieces m) (8 if misplaced d m else 5 if otherPieces d m else 3 if badSets (touched d) m else 0))
+  done-by : m .code ≡ Done → doneBy (d .t) (d .phase) (d .pieces) (touched d) (m .t) (m .pieces) (m .set) ≡ inOrder
+  unfolding doneBy notTaken overCount badNumbers badPieces misplaced otherPhase otherPieces badSets shapeOf
+  done-by e = rw e (simp or-false)
+
+  abbrev Answers : Type 0
+  Answers = answerBy (d .t) (d .ballot) (d .phase) (touched d) counts m ≡ inOrder
+
+  at-16 : m .code ≡ 16 → Answers
+  unfolding answerBy badHead elsewhere badHeld notTaken overCount badNumbers badPieces misplaced otherPhase otherPieces badSets shapeOf
+  at-16 e = rw (counted-by (m .server), e) (simp or-false)
+
+  at-17 : m .code ≡ 17 → Answers
+  unfolding answerBy badHead elsewhere badHeld notTaken overCount badNumbers badPieces misplaced otherPhase otherPieces badSets shapeOf
+  at-17 e = rw (counted-by (m .server), e) (simp or-false)
+
+  at-19 : m .code ≡ 19 → Answers
+  unfolding answerBy badHead elsewhere badHeld notTaken overCount badNumbers badPieces misplaced otherPhase otherPieces badSets shapeOf
+  at-19 e = rw (counted-by (m .server), e) (simp or-false)
+
+  at-21 : m .code ≡ 21 → Answers
+  unfolding answerBy badHead elsewhere badHeld notTaken overCount badNumbers badPieces misplaced otherPhase otherPieces badSets shapeOf
+  at-21 e = rw (counted-by (m .server), e) (simp or-false)
+
+  strange : driveTakes (m .code) ≡ false → notTaken m ≡ true
+  unfolding notTaken
+  strange e = rw e
+
+  by-code : (done taken : Bool) → eqb (m .code) Done ≡ done → driveTakes (m .code) ≡ taken → judgedBy (d .t) (d .ballot) (d .phase) (d .pieces) (touched d) counts m ≡ inOrder
+  unfolding judgedBy
+  by-code true taken e f = rw e (done-by (eqb-true (m .code) Done e))
+  by-code false true e f = rw (f, e) (served (λ k. m .code ≡ k → Answers) at-16 at-17 at-19 at-21 (m .code) f e refl)
+  by-code false false e f = rw (f, e, strange f)
+
+  judged-by : judgedBy (d .t) (d .ballot) (d .phase) (d .pieces) (touched d) counts m ≡ inOrder
+  judged-by = by-code (eqb (m .code) Done) (driveTakes (m .code)) refl refl
+
+  -- of a drive in form the word has the shards that it touches
+  by-form : (b : Bool) → formed d ≡ b → firstOf b (judgedBy (d .t) (d .ballot) (d .phase) (d .pieces) (touchedBy (d .pieces)) counts m) ≡ (13 if not b else inOrder)
+  unfolding firstOf
+  by-form true e = rw (kept-word (d .pieces) (formed-parts d e .pieces)) judged-by
+  by-form false e = refl
+
+  pub refusal-by : firstOf (formed d) (judgedBy (d .t) (d .ballot) (d .phase) (d .pieces) (touchedBy (d .pieces)) counts m) ≡ refusal d m
+  unfolding refusal
+  refusal-by = by-form (formed d) refl
 
 -- ---- of a reply that is not refused
 
--- an OK has a server
-ok-server : (k : ℕ) → driveTakes k ≡ true → eqb k Done ≡ false → eqb k Behind ≡ false → shapeOf k .server ≡ true
+none-fires : (b13 b12 b1 : Bool) (rest : ℕ) → (13 if b13 else 12 if b12 else 1 if b1 else rest) ≡ 0 → (b13 ≡ false) × (b12 ≡ false) × (b1 ≡ false)
+none-fires true b12 b1 rest e = absurd (omega arith)
+none-fires false true b1 rest e = absurd (omega arith)
+none-fires false false true rest e = absurd (omega arith)
+none-fires false false false rest e = (refl, refl, refl)
+
+unfired : (d : Drive) (m : Message) → refusal d m ≡ 0 → (not (formed d) ≡ false) × (notTaken m ≡ false) × (badNumbers m ≡ false)
+unfolding refusal
+unfired d m e = none-fires (not (formed d)) (notTaken m) (badNumbers m) _ e
+
+-- the drive is in form, so that the word has the shards that it touches
+pub taken-touched : (d : Drive) (m : Message) → refusal d m ≡ 0 → touchedBy (d .pieces) ≡ touched d
+taken-touched d m e = kept-word (d .pieces) (formed-parts d (not-no (formed d) (unfired d m e .0)) .pieces)
+
+-- a server's reply has a server
+has-server : (k : ℕ) → driveTakes k ≡ true → eqb k Done ≡ false → shapeOf k .server ≡ true
 unfolding shapeOf
-ok-server k e done behind =
-    ⊎-elim
-    (λ p. ⊎-elim
-    (λ q. ⊎-elim (λ r. ⊎-elim (at 16 refl) (at 17 refl) (or-yes (eqb k 16) (eqb k 17) r)) (at 19 refl) (or-yes (eqb k 16 || eqb k 17) (eqb k 19) q))
-    (λ q. absurd (true-and-false q done))
-    (or-yes (eqb k 16 || eqb k 17 || eqb k 19) (eqb k 20) p))
-    (λ p. absurd (true-and-false p behind))
-    (or-yes (eqb k 16 || eqb k 17 || eqb k 19 || eqb k 20) (eqb k 21) e)
-  where
-    at : (a : ℕ) → shapeOf a .server ≡ true → eqb k a ≡ true → shapeOf k .server ≡ true
-    at a has-one p = ap (λ (j : ℕ). shapeOf j .server) (eqb-true k a p) ∙ has-one
+has-server = served (λ k. shapeOf k .server ≡ true) refl refl refl refl
 
 second-no : (a b c d e f : Bool) → (a || b || c || d || e || f) ≡ false → b ≡ false
 second-no a b c d e f h =
     or-no-r a b (or-no-l (a || b) c (or-no-l (a || b || c) d (or-no-l (a || b || c || d) e (or-no-l (a || b || c || d || e) f h))))
 
--- the server of an OK that is not refused is one of the twelve
-pub ok-place : (d : Drive) (m : Message) → refusal d m ≡ 0 → eqb (m .code) Done ≡ false → eqb (m .code) Behind ≡ false → m .server < 12
-unfolding refusal notTaken badNumbers
-ok-place d m e done behind = leb-false 12 (m .server) in-range
+-- the server of a reply that is not refused is one of the twelve
+pub ok-place : (d : Drive) (m : Message) → refusal d m ≡ 0 → eqb (m .code) Done ≡ false → m .server < 12
+unfolding notTaken badNumbers
+ok-place d m e done = leb-false 12 (m .server) in-range
   where
-    unfired : (notTaken m ≡ false) × (badNumbers m ≡ false)
-    unfired = none-fires (not (formed d)) (notTaken m) (badNumbers m) _ e
-
-    has-server : shapeOf (m .code) .server ≡ true
-    has-server = ok-server (m .code) (not-no (driveTakes (m .code)) (or-no-l (not (driveTakes (m .code))) (overCount m) (unfired .0))) done behind
+    served-by : shapeOf (m .code) .server ≡ true
+    served-by = has-server (m .code) (not-no (driveTakes (m .code)) (or-no-l (not (driveTakes (m .code))) (overCount m) (unfired d m e .1))) done
 
     in-range : leb 12 (m .server) ≡ false
     in-range =
-        rw has-server at
+        rw served-by at
         (second-no
         (badNumber (m .t))
         (shapeOf (m .code) .server && badServer (m .server))
@@ -110,18 +160,17 @@ ok-place d m e done behind = leb-false 12 (m .server) in-range
         (shapeOf (m .code) .promise && badBallot (m .promise))
         (shapeOf (m .code) .prepared && there (m .accepted .some) && badBallot (m .accepted .ballot))
         (eqb (m .code) Prepare && eqb (m .ballot) 0)
-        (unfired .1))
+        (unfired d m e .2))
 
 -- ---- from what the step computes
 
 -- the number that the step finds, from the walk of the answers, is the refusal
-pub refusal-is : (d : Drive) → length (d .answers) ≡ 12 → (m : Message) {fault touches place no : ℕ} {keeps : Bool} {l : Walked}
-    → fault ≡ faultOf m
-    → touches ≡ touched d
-    → l ≡ walkedTo d 12
-    → keeps ≡ formedBy (d .t) (d .coordinator) (d .ballot) (d .phase) (d .seen) (d .pieces) (d .chosen) touches l
-    → place ≡ placeOf (d .t) (d .ballot) (d .phase) (d .pieces) touches (l .answered) m
-    → no ≡ firstOf keeps fault place
+pub refusal-is : (d : Drive) → length (d .answers) ≡ 12 → (m : Message) {touches judged no : ℕ} {keeps : Bool} {l : Walked}
+    → touches ≡ touchedBy (d .pieces)
+    → l ≡ walkedTo d touches 12
+    → keeps ≡ formedBy (d .t) (d .coordinator) (d .ballot) (d .phase) (d .seen) (d .chosen) touches l
+    → judged ≡ judgedBy (d .t) (d .ballot) (d .phase) (d .pieces) touches (l .answered) m
+    → no ≡ firstOf keeps judged
     → no ≡ refusal d m
 unfolding walkedTo
-refusal-is d full m e₁ e₂ e₃ e₄ e₅ e₆ = e₆ ∙ rw (e₅, e₄, e₁, e₂, e₃, formed-by d) (refusal-by d full m)
+refusal-is d full m e₁ e₂ e₃ e₄ e₅ = e₅ ∙ rw (e₄, e₃, e₂, e₁, formed-by d) (refusal-by d full m)

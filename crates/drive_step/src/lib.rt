@@ -2,16 +2,24 @@
 ghost use mathlib.Core.Path.{_≡_};
 ghost use Prim.Native.Nat.{max};
 ghost use Rattle.drive.specs.Hear.{answerOf, hear};
+use crate::refusals::first_of;
+use crate::refusals::judge;
 use drive::Answer;
 use drive::Drive;
 use drive::Moved;
-use drive_decide::decide;
+use drive_decide::choose;
 use drive_decide::no_answer;
+use drive_decide::votes;
+use drive_decide::votes::nobody;
+use drive_decide::words::in_all;
+use drive_decide::words::in_shard;
+use drive_form::answers_formed;
 use drive_form::at_first;
 use drive_form::counts::all_answered;
 use drive_form::counts::decided;
-use drive_form::formed_by;
 use drive_form::further;
+use drive_form::head_formed;
+use drive_form::set_formed;
 use messages::codes::BEHIND;
 use messages::codes::DONE;
 use messages::codes::PRE_ACCEPT_OK;
@@ -20,7 +28,7 @@ use rules::MaybeSet;
 use rules::MaybeVote;
 use rules::MaybeWord;
 use rules::Set;
-use rules::transaction::shards_of;
+use rules::transaction::touched;
 use wire::Message;
 
 pub mod refusals; // refusals.rt: which refusal a reply gets
@@ -80,8 +88,7 @@ pub fn hear(d: Drive, m: Message) -> Moved
     ensures { λ r. ⌜ r ≡ hear d m ⌝ }
 {
     let mut n = d;
-    let fault = refusals::fault_of(m);
-    let shards = shards_of(n.pieces);
+    let shards = touched(n.pieces);
     let mut l = at_first();
     let mut i: usize = 0;
     while i < 12 {
@@ -89,19 +96,12 @@ pub fn hear(d: Drive, m: Message) -> Moved
         l = further(l, n.t, shards, n.phase, i, a);
         i += 1;
     }
-    let formed = formed_by(
-        n.t,
-        n.coordinator,
-        n.ballot,
-        n.phase,
-        n.seen,
-        n.pieces,
-        n.chosen,
-        shards,
-        l,
-    );
-    let place = refusals::place_of(n.t, n.ballot, n.phase, n.pieces, shards, l.answered, m);
-    let no = refusals::first_of(formed, fault, place);
+    let formed = head_formed(n.t, n.coordinator, n.ballot, n.phase, n.seen, shards)
+        & answers_formed(n.t, n.phase, shards, l.answered, l.words)
+        & l.kept
+        & set_formed(n.t, shards, n.phase, n.chosen);
+    let judged = judge(n.t, n.ballot, n.phase, n.pieces, shards, l.answered, m);
+    let no = first_of(formed, judged);
     let taken = no == 0;
     let done = m.code == DONE;
     let behind = m.code == BEHIND;
@@ -131,7 +131,18 @@ pub fn hear(d: Drive, m: Message) -> Moved
         let answered = masks::insert(l.answered, s);
         let enough = decided(n.phase, shards, answered);
         if enough {
-            let turn = decide(n, all_answered(shards, answered));
+            let preparing = n.phase == 0;
+            let mut vote = nobody();
+            if preparing {
+                vote = votes::best(n);
+            }
+            let k0 = in_shard(n.answers[0], n.answers[1], n.answers[2]);
+            let k1 = in_shard(n.answers[3], n.answers[4], n.answers[5]);
+            let k2 = in_shard(n.answers[6], n.answers[7], n.answers[8]);
+            let k3 = in_shard(n.answers[9], n.answers[10], n.answers[11]);
+            let words = in_all(k0, k1, k2, k3);
+            let all = all_answered(shards, answered);
+            let turn = choose(n.phase, n.ballot == 0, all, vote, words, n.chosen.set);
             let none = [no_answer(); 12];
             let chosen = turn.chosen;
             n.phase = turn.phase;

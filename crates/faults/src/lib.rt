@@ -1,4 +1,4 @@
-// What is wrong with a message by itself, by refusals 12, 1, 2 and 3, in the fields that its code has. Server and drive share these tests.
+// What is wrong with a message by itself, by refusals 12, 1, 2 and 3, in the fields that its code has: the tests of a server. A drive has its own, by the kind of reply.
 ghost use mathlib.Core.Path.{_≡_};
 ghost use mathlib.Core.Bool.{_&&_};
 ghost use Rattle.rules.specs.Sets.{badSet};

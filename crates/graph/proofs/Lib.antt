@@ -1,9 +1,12 @@
 pub mod Arrays
 pub mod Places
+pub mod InPlace
 pub mod Rows
 pub mod Waiting
+pub mod InWords
 pub mod Computed
 pub mod Commits
 pub mod Progress
 pub mod Groups
 pub mod NextGroups
+pub mod Unrun

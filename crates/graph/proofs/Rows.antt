@@ -56,7 +56,7 @@ grown-zero k own = ap (λ (b : Bool). cond b (union 0 own) 0) (not-has not-in-no
 
 -- ---- a pass
 
-pass-row : (k : ℕ) (rows : List ℕ) (t : ℕ) → getD (pass k rows) t 0 ≡ grown k (getD rows k 0) (getD rows t 0)
+pub pass-row : (k : ℕ) (rows : List ℕ) (t : ℕ) → getD (pass k rows) t 0 ≡ grown k (getD rows k 0) (getD rows t 0)
 unfolding pass
 pass-row k rows t =
     ap (getD (map (grown k (getD rows k 0)) rows) t) (sym (grown-zero k (getD rows k 0)))
@@ -127,7 +127,7 @@ passes-complete deps w (direct {t = t} i) = passes-keep 64 deps t i
 passes-complete deps w (behind {u = u} {v = v} {t = t} i b) =
     passes-through 64 deps v (in-lt 64 (w t) i) u t (passes-keep 64 deps t i) (passes-complete deps w b)
 
-passes-words : (n : ℕ) (deps : List ℕ) → Words deps → Words (passes n deps)
+pub passes-words : (n : ℕ) (deps : List ℕ) → Words deps → Words (passes n deps)
 unfolding passes
 passes-words zero deps w t = w t
 passes-words (suc n) deps w t =

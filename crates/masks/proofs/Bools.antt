@@ -47,6 +47,19 @@ pub and-no : (a b : Bool) → (a && b) ≡ false → (a ≡ false) ⊎ (b ≡ fa
 and-no true b e = inr e
 and-no false b e = inl refl
 
+-- of two that are not both, the one is: the other is not
+pub one-no : (a b : Bool) → (a && b) ≡ false → a ≡ true → b ≡ false
+one-no true b e h = e
+one-no false b e h = absurd (false≢true h)
+
+-- if a then b
+pub then-yes : (a b : Bool) → (not a || b) ≡ true → a ≡ true → b ≡ true
+then-yes a b e h = cc
+
+pub yes-then : (a b : Bool) → (a ≡ true → b ≡ true) → (not a || b) ≡ true
+yes-then true b f = f refl
+yes-then false b f = refl
+
 pub not-yes : (a : Bool) → not a ≡ true → a ≡ false
 not-yes true e = absurd (false≢true e)
 not-yes false e = refl

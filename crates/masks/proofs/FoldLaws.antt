@@ -13,9 +13,9 @@ use lib.Pow.{pow-mono, pow-pos}
 use lib.ListN.{length, getD, length-append, List·getD-append}
 use lib.Seq.{getD-at, ext-getD}
 use Rattle.masks.specs.Bits.{has, In, none, insert, union, within}
-use Rattle.masks.specs.Folds.{allBelow, anyBelow, maskOf, unionOf, least, tab, iter, over}
+use Rattle.masks.specs.Folds.{allBelow, anyBelow, countBelow, maskOf, unionOf, least, tab, iter, over}
 use Rattle.masks.proofs.Bools.{or-no, or-yes, or-yes-l, or-yes-r, and-yes, and-yes-l, and-yes-r, not-and, not-or, not-yes, true-or-false, true-and-false, bool-ext}
-use Rattle.masks.proofs.Laws.{has-in, in-has, has-none, has-put, has-union, put-lt, union-lt, same-word, within-has, has-within}
+use Rattle.masks.proofs.Laws.{has-in, has-not, in-has, in-lt, has-none, has-put, has-union, put-lt, union-lt, same-word, empty-word, within-has, has-within}
 
 -- a number below n + 1 is below n, or is n
 pub below-or-last : (i n : ℕ) → i < suc n → (i < n) ⊎ (i ≡ n)
@@ -118,6 +118,27 @@ any-either f g n =
     (λ e. ⊎-elim (any-mono f (λ i. f i || g i) n (λ i l p. or-yes-l (f i) (g i) p)) (any-mono g (λ i. f i || g i) n (λ i l p. or-yes-r (f i) (g i) p)) (or-yes (anyBelow f n) (anyBelow g n) e))
     (λ e. let r = any-at (λ i. f i || g i) n e in ⊎-elim (λ p. or-yes-l (anyBelow f n) (anyBelow g n) (any-of f n (r .0) (r .1) p)) (λ p. or-yes-r (anyBelow f n) (anyBelow g n) (any-of g n (r .0) (r .1) p)) (or-yes (f (r .0)) (g (r .0)) (r .2)))
 
+-- where f holds of nothing from n on, up to m, the turns from n on add nothing
+module _ (f : ℕ → Bool) (n m : ℕ) (l : n ≤ m) (h : (i : ℕ) → n ≤ i → i < m → f i ≡ false) where
+  pub any-rest : anyBelow f n ≡ anyBelow f m
+  any-rest =
+      bool-ext (anyBelow f n) (anyBelow f m)
+      (λ e. let r = any-at f n e in any-of f m (r .0) (omega (arith, r .1)) (r .2))
+      (λ e. let r = any-at f m e in any-of f n (r .0) (inside (r .0) (r .1) (r .2) (decLt (r .0) n)) (r .2))
+    where
+      inside : (i : ℕ) → i < m → f i ≡ true → Dec (i < n) → i < n
+      inside i b e (yes p) = p
+      inside i b e (no p) = absurd (true-and-false e (h i (omega (arith, p)) b))
+
+pub count-rest : (f : ℕ → Bool) (n m : ℕ) → n ≤ m → ((i : ℕ) → n ≤ i → i < m → f i ≡ false) → countBelow f n ≡ countBelow f m
+unfolding countBelow
+count-rest f n zero l h = let e : n ≡ 0 = omega arith in ap (countBelow f) e
+count-rest f n (suc m) l h = go (decLt m n) (λ p. count-rest f n m p (λ i a b. h i a (omega arith)))
+  where
+    go : Dec (m < n) → (n ≤ m → countBelow f n ≡ countBelow f m) → countBelow f n ≡ countBelow f (suc m)
+    go (yes p) r = let e : n ≡ suc m = omega arith in ap (countBelow f) e
+    go (no p) r = rw (h m (omega (arith, p)) (omega arith)) (r (omega (arith, p)))
+
 -- ---- the sets: which numbers are in them, and that they are words
 
 at-last : (f : ℕ → Bool) (n : ℕ) → (ltb n n && f n || f n && eqb n n) ≡ (ltb n (suc n) && f n)
@@ -156,6 +177,10 @@ mask-cong f g (suc n) h =
     ap₂ (λ (b : Bool) (w : ℕ). cond b (insert w n) w) (h n (omega arith)) (mask-cong f g n (λ i l. h i (omega arith)))
 
 -- a word is the set of its members
+-- a word that is not empty holds some number
+pub some-member : (n w : ℕ) → w < 2 ^ n → (w ≡ none → ⊥) → (t : ℕ) × (t < n) × (has w t ≡ true)
+some-member n w l ne = ⊎-elim (λ y. any-at (has w) n y) (λ e. absurd (ne (empty-word n w l (λ t i. has-not (any-no (has w) n t e (in-lt n l i)) i)))) (true-or-false (anyBelow (has w) n))
+
 pub mask-has : (w n : ℕ) → w < 2 ^ n → maskOf (has w) n ≡ w
 mask-has w n h = same-word n (maskOf (has w) n) w (mask-bound (has w) n) h (λ t l. has-mask-below (has w) n t l)
 

@@ -14,7 +14,8 @@ use Rattle.door.proofs.told.begun_server.Reads as door·told·begun-server-cont
 use Rattle.door.proofs.told.ran_counted.Reads as door·told·ran-counted-contract
 use Rattle.door.proofs.told.ran_server.Reads as door·told·ran-server-contract
 use Rattle.door.proofs.told.taken_answer.Reads as door·told·taken-answer-contract
-use Rattle.door.proofs.told.taken_server.Reads as door·told·taken-server-contract
+use Rattle.door.proofs.told.taken_place.Reads as door·told·taken-place-contract
+use Rattle.door.proofs.told.taken_record.Reads as door·told·taken-record-contract
 
 pub door·exchange·take : Answers door·exchange·take-contract.Post
 door·exchange·take κ a x y e e′ p q = p .0 ∙ sym (q .0)
@@ -55,5 +56,8 @@ door·told·ran-server κ a x y e e′ p q = p ∙ sym q
 pub door·told·taken-answer : Answers door·told·taken-answer-contract.Post
 door·told·taken-answer κ a x y e e′ p q = p ∙ sym q
 
-pub door·told·taken-server : Answers door·told·taken-server-contract.Post
-door·told·taken-server κ a x y e e′ p q = p ∙ sym q
+pub door·told·taken-place : Answers door·told·taken-place-contract.Post
+door·told·taken-place κ a x y e e′ p q = p ∙ sym q
+
+pub door·told·taken-record : Answers door·told·taken-record-contract.Post
+door·told·taken-record κ a x y e e′ p q = p ∙ sym q

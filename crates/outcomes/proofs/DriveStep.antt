@@ -3,8 +3,7 @@ use mathlib.Core.Path.{sym, _∙_}
 use Rattle.outcomes.specs.Once.{Answers}
 use Rattle.drive_step.proofs.higher.Reads as drive-step·higher-contract
 use Rattle.drive_step.proofs.hear.Reads as drive-step·hear-contract
-use Rattle.drive_step.proofs.refusals.fault_of.Reads as drive-step·refusals·fault-of-contract
-use Rattle.drive_step.proofs.refusals.place_of.Reads as drive-step·refusals·place-of-contract
+use Rattle.drive_step.proofs.refusals.judge.Reads as drive-step·refusals·judge-contract
 use Rattle.drive_step.proofs.refusals.first_of.Reads as drive-step·refusals·first-of-contract
 
 pub drive-step·higher : Answers drive-step·higher-contract.Post
@@ -13,11 +12,8 @@ drive-step·higher κ a x y e e′ p q = p ∙ sym q
 pub drive-step·hear : Answers drive-step·hear-contract.Post
 drive-step·hear κ a x y e e′ p q = p ∙ sym q
 
-pub drive-step·refusals·fault-of : Answers drive-step·refusals·fault-of-contract.Post
-drive-step·refusals·fault-of κ a x y e e′ p q = p ∙ sym q
-
-pub drive-step·refusals·place-of : Answers drive-step·refusals·place-of-contract.Post
-drive-step·refusals·place-of κ a x y e e′ p q = p ∙ sym q
+pub drive-step·refusals·judge : Answers drive-step·refusals·judge-contract.Post
+drive-step·refusals·judge κ a x y e e′ p q = p ∙ sym q
 
 pub drive-step·refusals·first-of : Answers drive-step·refusals·first-of-contract.Post
 drive-step·refusals·first-of κ a x y e e′ p q = p ∙ sym q

@@ -23,6 +23,7 @@ use Rattle.drive.specs.Hear.{hear}
 use Rattle.drive.specs.Host.{again, moveOn, recover, start}
 use Rattle.server.specs.Host.{fresh, wanted}
 use Rattle.server.specs.Run.{run, runAll}
+use Rattle.server_run.specs.Limited.{ranUpTo}
 use Rattle.wire.specs.Encoding.{encode}
 
 pub drive-lent·hear-lent : (d : Drive) (m : Message) (r r₂ : ℕ) (d′ d′₂ : Drive) → ((r ≡ hear (d) m .refusal) × (d′ ≡ hear (d) m .drive)) → ((r₂ ≡ hear (d) m .refusal) × (d′₂ ≡ hear (d) m .drive)) → (r ≡ r₂) × (d′ ≡ d′₂)
@@ -36,6 +37,9 @@ station·servers·drobulets-server-fresh s id r r₂ s′ s′₂ p q = (p .0 �
 
 pub station·servers·drobulets-server-take : (s : Server) (input : List ℕ) (output : List ℕ) (r r₂ : door·Answer) (s′ s′₂ : Server) (output′ output′₂ : List ℕ) → ((r ≡ take (s) (input) (output) .answer) × (s′ ≡ take (s) (input) (output) .server) × (output′ ≡ take (s) (input) (output) .output)) → ((r₂ ≡ take (s) (input) (output) .answer) × (s′₂ ≡ take (s) (input) (output) .server) × (output′₂ ≡ take (s) (input) (output) .output)) → (r ≡ r₂) × (s′ ≡ s′₂) × (output′ ≡ output′₂)
 station·servers·drobulets-server-take s input output r r₂ s′ s′₂ output′ output′₂ p q = (p .0 ∙ sym (q .0), p .1 ∙ sym (q .1), p .2 ∙ sym (q .2))
+
+pub station·servers·runs : (s : Server) (limit : ℕ) (r r₂ : Counted) (s′ s′₂ : Server) → ((r ≡ counted (ranUpTo limit (s))) × (s′ ≡ ranUpTo limit (s) .server)) → ((r₂ ≡ counted (ranUpTo limit (s))) × (s′₂ ≡ ranUpTo limit (s) .server)) → (r ≡ r₂) × (s′ ≡ s′₂)
+station·servers·runs s limit r r₂ s′ s′₂ p q = (p .0 ∙ sym (q .0), p .1 ∙ sym (q .1))
 
 pub station·servers·drobulets-server-run : (s : Server) (r r₂ : Counted) (s′ s′₂ : Server) → ((r ≡ counted (run (s))) × (s′ ≡ run (s) .server)) → ((r₂ ≡ counted (run (s))) × (s′₂ ≡ run (s) .server)) → (r ≡ r₂) × (s′ ≡ s′₂)
 station·servers·drobulets-server-run s r r₂ s′ s′₂ p q = (p .0 ∙ sym (q .0), p .1 ∙ sym (q .1))

@@ -15,12 +15,13 @@ use Rattle.rules.proofs.ballots.next_above.Reads as rules·ballots·next-above-
 use Rattle.rules.proofs.ballots.no_next.Reads as rules·ballots·no-next-contract
 use Rattle.rules.proofs.transaction.place.Reads as rules·transaction·place-contract
 use Rattle.rules.proofs.transaction.piece_kept.Reads as rules·transaction·piece-kept-contract
-use Rattle.rules.proofs.transaction.entry_kept.Reads as rules·transaction·entry-kept-contract
+use Rattle.rules.proofs.transaction.touched.Reads as rules·transaction·touched-contract
 use Rattle.rules.proofs.transaction.pieces_kept.Reads as rules·transaction·pieces-kept-contract
 use Rattle.rules.proofs.transaction.too_many.Reads as rules·transaction·too-many-contract
 use Rattle.rules.proofs.transaction.any_pieces.Reads as rules·transaction·any-pieces-contract
 use Rattle.rules.proofs.transaction.on_shard.Reads as rules·transaction·on-shard-contract
 use Rattle.rules.proofs.transaction.touches.Reads as rules·transaction·touches-contract
+use Rattle.rules.proofs.transaction.used.Reads as rules·transaction·used-contract
 use Rattle.rules.proofs.transaction.pieces_on.Reads as rules·transaction·pieces-on-contract
 use Rattle.rules.proofs.transaction.put_below.Reads as rules·transaction·put-below-contract
 use Rattle.rules.proofs.transaction.shards_of.Reads as rules·transaction·shards-of-contract
@@ -78,8 +79,8 @@ rules·transaction·place κ a x y e e′ p q = p ∙ sym q
 pub rules·transaction·piece-kept : Answers rules·transaction·piece-kept-contract.Post
 rules·transaction·piece-kept κ a x y e e′ p q = p ∙ sym q
 
-pub rules·transaction·entry-kept : Answers rules·transaction·entry-kept-contract.Post
-rules·transaction·entry-kept κ a x y e e′ p q = p ∙ sym q
+pub rules·transaction·touched : Answers rules·transaction·touched-contract.Post
+rules·transaction·touched κ a x y e e′ p q = p ∙ sym q
 
 pub rules·transaction·pieces-kept : Answers rules·transaction·pieces-kept-contract.Post
 rules·transaction·pieces-kept κ a x y e e′ p q = p ∙ sym q
@@ -95,6 +96,9 @@ rules·transaction·on-shard κ a x y e e′ p q = p ∙ sym q
 
 pub rules·transaction·touches : Answers rules·transaction·touches-contract.Post
 rules·transaction·touches κ a x y e e′ p q = p ∙ sym q
+
+pub rules·transaction·used : Answers rules·transaction·used-contract.Post
+rules·transaction·used κ a x y e e′ p q = p ∙ sym q
 
 pub rules·transaction·pieces-on : Answers rules·transaction·pieces-on-contract.Post
 rules·transaction·pieces-on κ a x y e e′ p q = p ∙ sym q

@@ -4,7 +4,6 @@ use Rattle.outcomes.specs.Once.{Answers}
 use Rattle.server_form.proofs.formed.Reads as server-form·formed-contract
 use Rattle.server_form.proofs.log.read_log.Reads as server-form·log·read-log-contract
 use Rattle.server_form.proofs.number.number_formed.Reads as server-form·number·number-formed-contract
-use Rattle.server_form.proofs.pieces.touched.Reads as server-form·pieces·touched-contract
 
 pub server-form·formed : Answers server-form·formed-contract.Post
 server-form·formed κ a x y e e′ p q = p ∙ sym q
@@ -14,6 +13,3 @@ server-form·log·read-log κ a x y e e′ p q = p ∙ sym q
 
 pub server-form·number·number-formed : Answers server-form·number·number-formed-contract.Post
 server-form·number·number-formed κ a x y e e′ p q = p ∙ sym q
-
-pub server-form·pieces·touched : Answers server-form·pieces·touched-contract.Post
-server-form·pieces·touched κ a x y e e′ p q = p ∙ sym q

@@ -10,18 +10,14 @@ use lib.Dec.{ltb, eqb}
 use borrow.Author.Tests.{lt-ltb, ltb-true, eq-eqb, eqb-true, eqb-false, ne-eqb}
 use Rattle.masks.specs.Bits.{has, none, both}
 use Rattle.masks.specs.Folds.{anyBelow}
-use Rattle.masks.proofs.Bools.{and-yes, and-yes-l, and-yes-r, or-yes, or-yes-l, or-yes-r, not-yes, true-or-false, true-and-false, not-true-false, bool-ext}
-use Rattle.masks.proofs.Laws.{has-in, has-both, has-not, in-pos, in-lt, both-lt, empty-word}
-use Rattle.masks.proofs.FoldLaws.{any-at, any-of, any-no, has-mask-below, mask-bound}
+use Rattle.masks.proofs.Bools.{and-yes, and-yes-l, and-yes-r, or-yes, or-yes-l, or-yes-r, not-yes, true-and-false, not-true-false, bool-ext}
+use Rattle.masks.proofs.Laws.{has-in, has-both, in-pos, both-lt}
+use Rattle.masks.proofs.FoldLaws.{any-at, any-of, has-mask-below, mask-bound, some-member}
 use Rattle.rules.specs.declared.Pieces.{Pieces}
 use Rattle.rules.specs.Cluster.{KEYS, PIECES}
 use Rattle.rules.specs.Pieces.{pieceAt, read, onShard, On}
 use Rattle.rules.specs.Conflict.{clash, clashWith, clashAny, conflict, Shares}
 use Rattle.rules.specs.Keys.{atKey, writesAt, hasKey, writesKey, keysOn, clashes}
-
--- a word that is not empty holds some number
-pub some-member : (n w : ℕ) → w < 2 ^ n → (w ≡ none → ⊥) → (t : ℕ) × (t < n) × (has w t ≡ true)
-some-member n w l ne = ⊎-elim (λ y. any-at (has w) n y) (λ e. absurd (ne (empty-word n w l (λ t i. has-not (any-no (has w) n t e (in-lt n l i)) i)))) (true-or-false (anyBelow (has w) n))
 
 -- the piece i is on shard k, as a test and in words
 module _ (ps : Pieces) (k i : ℕ) where

@@ -6,4 +6,5 @@ pub mod OnePass
 pub mod ConflictIs
 pub mod SamePieces
 pub mod PiecesKept
+pub mod TouchedWord
 pub mod SetLaws

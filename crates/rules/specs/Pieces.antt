@@ -6,6 +6,7 @@ use lib.Dec.{ltb, leb, eqb}
 use lib.ListN.{getD, replicate}
 use lib.IntN.{ℤ, pos, negsuc}
 use Rattle.masks.specs.Folds.{allBelow, anyBelow, countBelow, maskOf}
+use Rattle.rules.specs.Choice.{_if_else_}
 use Rattle.rules.specs.Cluster.{SHARDS, KEYS, KINDS, PIECES}
 use Rattle.rules.specs.declared.Piece.{Piece}
 use Rattle.rules.specs.declared.Pieces.{Pieces}
@@ -56,6 +57,10 @@ tooMany ps = ltb PIECES (ps .count)
 unfoldable pub piecesKept : Pieces → Bool
 piecesKept ps = leb 1 (ps .count) && leb (ps .count) PIECES && allBelow (entryKept ps) (ps .count)
 
+-- how many of the places of pieces a count uses
+unfoldable pub used : ℕ → ℕ
+used n = n if ltb n PIECES else PIECES
+
 -- the piece i is there, and on shard k
 unfoldable pub onShard : Pieces → ℕ → ℕ → Bool
 onShard ps k i = ltb i (ps .count) && eqb (pieceAt ps i .shard) k
@@ -73,6 +78,10 @@ touches ps k = anyBelow (onShard ps k) PIECES
 -- the shards that T touches, as a word
 unfoldable pub shardsOf : Pieces → ℕ
 shardsOf ps = maskOf (touches ps) SHARDS
+
+-- the same where the pieces keep rule 2, and else 0
+unfoldable pub touchedBy : Pieces → ℕ
+touchedBy ps = shardsOf ps if piecesKept ps else 0
 
 -- how many pieces T has on shard k
 unfoldable pub piecesOn : Pieces → ℕ → ℕ

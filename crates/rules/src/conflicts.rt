@@ -5,21 +5,21 @@ ghost use Rattle.rules.specs.Conflict.{conflict};
 use crate::Keys;
 use crate::Pieces;
 use crate::cluster::KEYS;
-use crate::cluster::PIECES;
 use crate::transaction::READ;
 use crate::transaction::put_below;
+use crate::transaction::used;
 
 // The keys of a transaction at shard `k`.
 pub fn keys_on(ps: Pieces, k: u32) -> Keys
     ensures { λ r. ⌜ r ≡ keysOn ps k ⌝ }
 {
-    let n = ps.count as usize;
+    let n = used(ps.count);
     let mut all: u64 = 0;
     let mut written: u64 = 0;
     let mut i: usize = 0;
-    while i < PIECES {
+    while i < n {
         let p = ps.list[i];
-        let here = (i < n) & (p.shard == k);
+        let here = p.shard == k;
         all = put_below(all, KEYS, p.key, here);
         written = put_below(written, KEYS, p.key, here & (p.kind != READ));
         i += 1;

@@ -5,7 +5,7 @@ ghost use Prim.Native.Nat.{_+_, _<_, _≤_};
 ghost use lib.Dec.{ltb};
 ghost use Rattle.masks.specs.Bits.{insert};
 ghost use Rattle.rules.specs.Cluster.{NUMBERS, PIECES};
-ghost use Rattle.rules.specs.Pieces.{place, pieceKept, entryKept, piecesKept, tooMany, anyPieces, onShard, touches, shardsOf, piecesOn, samePiece, samePieces};
+ghost use Rattle.rules.specs.Pieces.{place, pieceKept, piecesKept, tooMany, anyPieces, used, onShard, touches, shardsOf, touchedBy, piecesOn, samePiece, samePieces};
 use crate::Piece;
 use crate::Pieces;
 use crate::cluster::KEYS;
@@ -34,36 +34,36 @@ pub fn piece_kept(p: Piece) -> bool
     (p.shard < SHARDS) & (p.key < KEYS) & (p.kind < KINDS) & ((p.kind != READ) | (p.operand == 0))
 }
 
-// Piece `i` keeps the rule, and stands after the one before it.
-pub fn entry_kept(ps: Pieces, i: usize) -> bool
-    requires { ⌜ i < PIECES ⌝ }
-    ensures { λ r. ⌜ r ≡ entryKept ps i ⌝ }
+// The shards that pieces touch, as a word; 0 where they break rule 2. Whoever keeps it touches a shard.
+pub fn touched(ps: Pieces) -> u64
+    ensures { λ r. ⌜ r ≡ touchedBy ps ⌝ }
 {
-    let p = ps.list[i];
-    let kept = piece_kept(p);
-    if i == 0 {
-        return kept;
+    let n = ps.count as usize;
+    let enough = (1 <= n) & (n <= PIECES);
+    if !enough {
+        return 0;
     }
-    let q = ps.list[i - 1];
-    kept & (place(q) < place(p))
+    let mut kept = true;
+    let mut last: u64 = 0;
+    let mut word: u64 = 0;
+    let mut i: usize = 0;
+    while i < n {
+        let p = ps.list[i];
+        let at = place(p);
+        let entry = piece_kept(p) & ((i == 0) | (last < at));
+        kept = kept & entry;
+        word = put_below(word, SHARDS, p.shard, true);
+        last = at;
+        i += 1;
+    }
+    if kept { word } else { 0 }
 }
 
 // Rule 2 is kept.
 pub fn pieces_kept(ps: Pieces) -> bool
     ensures { λ r. ⌜ r ≡ piecesKept ps ⌝ }
 {
-    let n = ps.count as usize;
-    let enough = (1 <= n) & (n <= PIECES);
-    if !enough {
-        return false;
-    }
-    let mut kept = true;
-    let mut i: usize = 0;
-    while i < n {
-        kept = kept & entry_kept(ps, i);
-        i += 1;
-    }
-    kept
+    !masks::is_empty(touched(ps))
 }
 
 pub fn too_many(ps: Pieces) -> bool
@@ -109,14 +109,24 @@ fn counted(many: u32, b: bool) -> u32
     if b { many + 1 } else { many }
 }
 
+// How many of the places of pieces are in use.
+pub fn used(count: u32) -> usize
+    ensures { λ r. ⌜ r ≡ used count ⌝ }
+{
+    let many = count as usize;
+    if many < PIECES { many } else { PIECES }
+}
+
 // How many pieces the transaction has on shard `k`.
 pub fn pieces_on(ps: Pieces, k: u32) -> u32
     ensures { λ r. ⌜ r ≡ piecesOn ps k ⌝ }
 {
+    let n = used(ps.count);
     let mut many: u32 = 0;
     let mut i: usize = 0;
-    while i < PIECES {
-        many = counted(many, on_shard(ps, k, i));
+    while i < n {
+        let p = ps.list[i];
+        many = counted(many, p.shard == k);
         i += 1;
     }
     many

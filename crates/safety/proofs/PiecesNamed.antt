@@ -7,7 +7,7 @@ use Prim.Native.Nat.{ℕ}
 use native.Mathlib.Omega.{arith}
 use borrow.Author.Tests.{eqb-true}
 use lib.Dec.{eqb}
-use Rattle.masks.proofs.Bools.{not-no, or-yes, true-and-false}
+use Rattle.masks.proofs.Bools.{not-no, or-yes, true-and-false, one-no}
 use Rattle.rules.specs.declared.Pieces.{Pieces}
 use Rattle.rules.specs.declared.MaybeWord.{MaybeWord}
 use Rattle.rules.specs.declared.MaybeSet.{MaybeSet}
@@ -22,7 +22,7 @@ use Rattle.server.specs.declared.Server.{Server}
 use Rattle.server.specs.Held.{recordAt}
 use Rattle.server.specs.declared.Ran.{Ran}
 use Rattle.server.specs.Serve.{arrivalFor}
-use Rattle.server.proofs.Passed.{one-no, number-below}
+use Rattle.server.proofs.Passed.{number-below}
 use Rattle.server.proofs.Did.{Did, tells, isDone, preAcceptsFirst, preAcceptsAgain, accepts, prepares, commitsFirst}
 use Rattle.server.proofs.RunLeaves.{SameHeld, Leaves, run-leaves, runAll-leaves}
 use Rattle.drive.specs.declared.Drive.{Drive}

@@ -9,7 +9,7 @@ use borrow.Author.Tests.{eqb-true, eq-eqb, leb-true, le-leb}
 use lib.Dec.{eqb, leb}
 use Rattle.masks.specs.Bits.{has, insert, within}
 use Rattle.masks.specs.Folds.{allBelow, iter}
-use Rattle.masks.proofs.Bools.{and-yes, and-yes-l, and-yes-r, or-yes, or-yes-l, or-yes-r, not-yes, true-and-false}
+use Rattle.masks.proofs.Bools.{and-yes, and-yes-l, and-yes-r, or-yes, or-yes-l, or-yes-r, not-yes, true-and-false, then-yes, yes-then}
 use Rattle.masks.proofs.Laws.{has-insert, has-none}
 use Rattle.masks.proofs.FoldLaws.{all-at, all-of}
 use Rattle.rules.specs.Flags.{there, implies}
@@ -22,15 +22,6 @@ use Rattle.server.specs.declared.Log.{Log}
 use Rattle.server.specs.declared.Server.{Server}
 use Rattle.server.specs.Held.{recordAt, shard, committedAt, entryAt}
 use Rattle.server.specs.Form.{piecesFormed, ballotsFormed, setsFormed, setsHavePieces, recordFormed, recordFormedAt, noted, logged, entryFormed, logFormed, resultsFormed, resultsFormedAt, formed}
-
--- ---- if a then b
-
-pub then-yes : (a b : Bool) → implies a b ≡ true → a ≡ true → b ≡ true
-then-yes a b e h = cc
-
-pub yes-then : (a b : Bool) → (a ≡ true → b ≡ true) → implies a b ≡ true
-yes-then true b f = f refl
-yes-then false b f = refl
 
 -- ---- one record
 

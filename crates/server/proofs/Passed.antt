@@ -1,7 +1,7 @@
 -- A message that a server does not refuse: none of the refusals' tests fires. And which test fired for 5 and for 6. Assumes nothing.
 use mathlib.Core.Path.{_≡_, refl, sym}
 use mathlib.Core.Logic.{_≢_}
-use mathlib.Core.Bool.{Bool, true, false, not, cond, _&&_, false≢true}
+use mathlib.Core.Bool.{Bool, true, false, not, cond, _&&_}
 use Prim.Native.Nat.{ℕ, _<_}
 use native.Mathlib.Omega.{arith}
 use lib.Dec.{eqb}
@@ -35,11 +35,6 @@ not-first n false k r h e = (refl, e)
 pub is-first : (n : ℕ) (b : Bool) (r : ℕ) → r ≢ n → cond b n r ≡ n → b ≡ true
 is-first n true r h e = refl
 is-first n false r h e = absurd (h e)
-
--- of two that are not both, the one is: the other is not
-pub one-no : (a b : Bool) → (a && b) ≡ false → a ≡ true → b ≡ false
-one-no true b e h = e
-one-no false b e h = absurd (false≢true h)
 
 pub passed : (s : Server) (m : Message) → refusal s m ≡ 0 → Passed s m
 unfolding refusal

@@ -9,7 +9,7 @@ use lib.Dec.{eqb, leb}
 use lib.ListN.{length, set}
 use Rattle.masks.specs.Bits.{has, within}
 use Rattle.masks.specs.Folds.{allBelow}
-use Rattle.masks.proofs.Bools.{and-yes-l, and-no-l, or-no-l, or-no-r, or-yes, not-no, true-and-false}
+use Rattle.masks.proofs.Bools.{and-yes-l, and-no-l, or-no-l, or-no-r, or-yes, not-no, true-and-false, one-no}
 use Rattle.masks.proofs.FoldLaws.{has-mask-below}
 use Rattle.rules.specs.declared.Pieces.{Pieces}
 use Rattle.rules.specs.Flags.{there}
@@ -30,7 +30,7 @@ use Rattle.server.specs.Form.{logged, formed}
 use Rattle.server.specs.Refusals.{untouched, otherPieces, refusal}
 use Rattle.server.specs.Changes.{change}
 use Rattle.server.specs.Serve.{cameEarlier, arrivalSet, fixes, arrivalFor, refused, taken, serve}
-use Rattle.server.proofs.Passed.{Passed, passed, one-no, number-below}
+use Rattle.server.proofs.Passed.{Passed, passed, number-below}
 use Rattle.server.proofs.Did.{Did, tells, isDone, preAcceptsFirst, preAcceptsAgain, accepts, prepares, commitsFirst, Open, change-did}
 use Rattle.server.proofs.RunLeaves.{set-either}
 use Rattle.server.proofs.FormParts.{RecordForm, EntryForm, ResultForm, Formed, formed-parts, parts-formed, logged-committed}

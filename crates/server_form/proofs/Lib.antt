@@ -1,3 +1,2 @@
 pub mod FormInOnePass
-pub mod TouchedWord
 pub mod NumberParts

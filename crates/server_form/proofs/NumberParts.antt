@@ -14,7 +14,7 @@ use Rattle.rules.specs.Sets.{badWord, badSet, members}
 use Rattle.server.specs.declared.Record.{Record}
 use Rattle.server.specs.Form.{piecesFormed, ballotsFormed, setsFormed, setsHavePieces, recordFormed, resultsFormed}
 use Rattle.server_form.specs.OnePass.{loggedFormed, numberFormed, bareFormed, setsKept, ranFormed, heldFormed}
-use Rattle.server_form.proofs.TouchedWord.{kept-word, kept-touched}
+use Rattle.rules.proofs.TouchedWord.{kept-word, kept-touched}
 
 -- ---- without pieces
 

@@ -8,8 +8,7 @@ use Rattle.rules.specs.Choice.{_if_else_}
 use Rattle.rules.specs.Flags.{there, implies}
 use Rattle.rules.specs.Cluster.{NUMBERS, badServer}
 use Rattle.rules.specs.Ballots.{badBallot}
-use Rattle.rules.specs.declared.Pieces.{Pieces}
-use Rattle.rules.specs.Pieces.{piecesKept, piecesOn, shardsOf}
+use Rattle.rules.specs.Pieces.{piecesOn, touchedBy}
 use Rattle.rules.specs.Sets.{badWord, badSet, members}
 use Rattle.server.specs.declared.Record.{Record}
 use Rattle.server.specs.declared.Log.{Log}
@@ -17,10 +16,6 @@ use Rattle.server.specs.declared.Server.{Server}
 use Rattle.server.specs.Held.{recordAt, shard, entryAt}
 use Rattle.server.specs.Form.{logged, recordFormed, resultsFormed}
 use Rattle.server_form.specs.declared.LogRead.{LogRead}
-
--- the shards that the pieces touch, as a word; 0 where they break rule 2
-unfoldable pub touchedBy : Pieces → ℕ
-touchedBy ps = shardsOf ps if piecesKept ps else 0
 
 -- ---- the log by itself
 

@@ -7,7 +7,6 @@ use server::Server;
 
 pub mod log; // log.rt: the log's numbers as a word
 pub mod number; // number.rt: the record and the results of one number
-pub mod pieces; // pieces.rt: the shards that pieces touch, in one walk
 
 // What the log says by itself: its numbers, and whether it is a log.
 pub struct LogRead {

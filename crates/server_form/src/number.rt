@@ -11,6 +11,7 @@ use rules::sets::bad_set;
 use rules::sets::bad_word;
 use rules::sets::members;
 use rules::transaction::pieces_on;
+use rules::transaction::touched;
 use server::Record;
 
 // Without pieces nothing else is there but a promise.
@@ -73,7 +74,7 @@ fn ran_formed(k: u32, w: u64, logged: bool, v: Record) -> bool
 fn held_formed(k: u32, w: u64, t: u32, v: Record) -> bool
     ensures { λ r. ⌜ r ≡ heldFormed k w t v ⌝ }
 {
-    let touched = crate::pieces::touched(v.pieces);
+    let touched = touched(v.pieces);
     let logged = masks::has(w, t as usize);
     !masks::is_empty(touched)
         & !bad_ballot(v.promise)

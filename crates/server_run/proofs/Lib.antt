@@ -1,2 +1,3 @@
 pub mod Gathering
+pub mod Unrun
 pub mod Turning

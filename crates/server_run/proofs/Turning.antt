@@ -1,35 +1,93 @@
--- Runs on one copy of the server: what holds of the copy between two runs, and what the stores for one number make of it. The walk asks the words that were
--- gathered once: no run changes the dependencies or the commits, and what has run grows by what was run. Assumes nothing.
-use Prim.Native.Nat.{ℕ, zero, suc, _+_, _-_, _*_, _^_, _≤_, _<_}
-use mathlib.Core.Path.{_≡_, refl, sym, ap, ap₂, _∙_}
+-- Runs on one copy of the server, whose counters and log stand beside it meanwhile: what holds between two runs, and what the stores for one number make of it.
+-- The walk asks the words that were gathered once: no run changes the dependencies or the commits, and what has run grows by what was run. Assumes nothing.
+use Prim.Native.Nat.{ℕ, zero, suc, _+_, _-_, _^_, _≤_, _<_}
+use mathlib.Core.Path.{_≡_, refl, sym, ap, ap₂, _∙_, subst}
 use native.Mathlib.Omega.{arith}
-use mathlib.Core.Bool.{true, not, _&&_}
+use mathlib.Core.Bool.{Bool, true, false, cond}
 use mathlib.Core.List.{List}
-use borrow.Author.Tests.{leb-true}
-use lib.Dec.{leb}
 use lib.ListN.{length, set}
 use Rattle.masks.specs.Bits.{has, union}
-use Rattle.masks.specs.Folds.{allBelow, over}
-use Rattle.masks.proofs.Bools.{and-yes-l, and-yes-r}
-use Rattle.masks.proofs.Counts.{count-le, size-le}
-use Rattle.rules.specs.Cluster.{badServer}
+use Rattle.masks.specs.Folds.{tab, iter, over, size}
+use Rattle.masks.proofs.Laws.{Sub, sub-refl, sub-trans, sub-left}
+use Rattle.masks.proofs.FoldLaws.{over-keeps}
+use Rattle.masks.proofs.Counts.{count-le}
+use Rattle.rules.specs.declared.Pieces.{Pieces}
+use Rattle.rules.specs.declared.Values.{Values}
+use Rattle.rules.specs.Cluster.{shardOf}
+use Rattle.rules.specs.Pieces.{onShard}
 use Rattle.graph.specs.Walk.{rowsOf, nextGroup}
+use Rattle.graph.proofs.Rows.{Words}
+use Rattle.graph.proofs.Groups.{Kept}
+use Rattle.graph.proofs.NextGroups.{next-keeps, next-adds, next-room}
+use Rattle.counters.specs.declared.Counters.{Counters}
 use Rattle.counters.specs.declared.Executed.{Executed}
-use Rattle.counters.specs.Effects.{execute}
+use Rattle.counters.specs.Effects.{runEntry, execute}
+use Rattle.counters.proofs.Results.{count-after}
+use Rattle.counters.proofs.PerKey.{begun, length-after, counters-length}
+use Rattle.counters.proofs.PerPiece.{counted-less}
 use Rattle.server.specs.declared.Log.{Log}
+use Rattle.server.specs.declared.Ran.{Ran}
 use Rattle.server.specs.declared.Server.{Server}
 use Rattle.server.specs.Held.{recordAt, shard, committedWord, ranWord, append}
-use Rattle.server.specs.Form.{recordFormedAt, entryFormed, logFormed, resultsFormedAt, formed}
-use Rattle.server.specs.Run.{depsOf, nextRun, withResults, stored, runOne, runGroup, turns}
+use Rattle.server.specs.Form.{formed}
+use Rattle.server.specs.Run.{depsOf, nextRun, withResults, stored, runOne, runGroup, run, runAll, turns, ranFrom, ranNone}
+use Rattle.server.proofs.FormParts.{formed-parts}
+use Rattle.server.proofs.LogGrows.{lined-size}
 use Rattle.server.proofs.RunGroups.{over-id, over-count, group-id, group-long, group-deps, group-committed-word, group-count, group-ran}
-use Rattle.server.proofs.RunTurns.{turns-none, turns-stop, turns-more}
-use Rattle.server_run.specs.declared.Survey.{Survey}
-use Rattle.server_run.specs.Gathered.{gathered}
+use Rattle.server.proofs.RunKeepsForm.{formed-lined, log-kept}
+use Rattle.server.proofs.RunTurns.{turns-none, turns-stop, turns-more, turn-once}
+use Rattle.server_form.specs.OnePass.{readLog}
+use Rattle.server_run.specs.Gathered.{unrunAt}
+use Rattle.server_run.specs.Limited.{allowed, refusalOf, ranUpTo}
+use Rattle.server_run.proofs.Unrun.{read-log, read-ran, next-unrun}
 
--- what the walk finds by the words that were gathered
-pub asked : (s : Server) (found : Survey) (rows : List ℕ) → found ≡ gathered s → rows ≡ rowsOf (found .deps) → (ran g : ℕ) → g ≡ nextGroup rows (found .committed) ran → g ≡ nextGroup (rowsOf (depsOf s)) (committedWord s) ran
-asked s found rows p q ran g e =
-    e ∙ ap₂ (λ (r : List ℕ) (c : ℕ). nextGroup r c ran) (q ∙ ap (λ (x : Survey). rowsOf (x .deps)) p) (ap (λ (x : Survey). x .committed) p)
+-- the copy with its counters and its log
+abbrev pub whole : Server → Counters → Log → Server
+whole n c l = record { id = n .id; records = n .records; counters = c; log = l }
+
+-- ---- the limit
+
+-- runs are allowed only where the form is kept
+pub allowed-form : (form : Bool) (limit r : ℕ) → r ≡ allowed form limit → 0 < r → form ≡ true
+unfolding allowed
+allowed-form true limit r e h = refl
+allowed-form false limit r e h = absurd (omega (arith, e, h))
+
+limited : (b : Bool) (limit : ℕ) (s : Server) → record { refusal = refusalOf b; many = turns (allowed b limit) s .log .count - s .log .count; server = turns (allowed b limit) s } ≡ cond b (ranFrom s (turns limit s)) (ranNone s 13)
+unfolding allowed refusalOf
+limited true limit s = refl
+limited false limit s = rw turns-none (ap (λ (n : ℕ). record { refusal = 13; many = n; server = s }) none)
+  where
+    none : s .log .count - s .log .count ≡ 0
+    none = omega arith
+
+pub up-to : (form : Bool) (limit : ℕ) (s : Server) → form ≡ formed s → (z : Server) → z ≡ turns (allowed form limit) s
+    → record { refusal = refusalOf form; many = z .log .count - s .log .count; server = z } ≡ ranUpTo limit s
+unfolding ranUpTo
+up-to form limit s f z e =
+    ap (λ (z : Server). record { refusal = refusalOf form; many = z .log .count - s .log .count; server = z }) e
+    ∙ limited form limit s
+    ∙ ap (λ (b : Bool). cond b (ranFrom s (turns limit s)) (ranNone s 13)) f
+
+-- a run is one of them, and runs until 0 are 64
+pub run-once : (s : Server) → ranUpTo 1 s ≡ run s
+unfolding ranUpTo run
+run-once s = ap (λ (r : Ran). cond (formed s) r (ranNone s 13)) (sym (turn-once s))
+
+pub run-until : (s : Server) → ranUpTo 64 s ≡ runAll s
+unfolding ranUpTo runAll
+run-until s = refl
+
+-- ---- between two runs
+
+-- what was gathered of s: its shard, its form, and the words that the walk asks
+pub record Asked (s : Server) (k : ℕ) (form : Bool) (committed : ℕ) (rows : List ℕ) (limit : ℕ) : Type 0 where
+  pub own : k ≡ shard s
+  pub true-form : form ≡ formed s
+  pub fine : 0 < limit → formed s ≡ true
+  pub graph : rows ≡ rowsOf (tab (unrunAt s) 64)
+  pub commits : committed ≡ committedWord s
+  pub words : Words (depsOf s)
 
 -- the copy n, with `left` runs to go of the `limit` that began at s
 pub record Going (s : Server) (limit ran : ℕ) (n : Server) (left : ℕ) : Type 0 where
@@ -37,18 +95,40 @@ pub record Going (s : Server) (limit ran : ℕ) (n : Server) (left : ℕ) : Type
   pub same : turns left n ≡ turns limit s
   pub deps : depsOf n ≡ depsOf s
   pub commits : committedWord n ≡ committedWord s
-  pub word : ran ≡ ranWord n
+  pub word : 0 < left → ran ≡ ranWord n
+  pub old : 0 < left → Sub (ranWord s) ran
+  pub kept : 0 < left → Kept (depsOf s) (committedWord s) ran
+  pub count : 0 < left → n .log .count ≡ size ran
   pub long : length (n .records) ≡ 64
+  pub keys : length (n .counters .list) ≡ 16
   pub id : n .id ≡ s .id
   pub more : s .log .count ≤ n .log .count
-  pub fits : n .log .count + 64 * left ≤ 64 + 64 * limit
 
-pub going-start : (s : Server) (limit : ℕ) → length (s .records) ≡ 64 → s .log .count ≤ 64 → Going s limit (ranWord s) s limit
-going-start s limit l h = record { few = omega arith; same = refl; deps = refl; commits = refl; word = refl; long = l; id = refl; more = omega arith; fits = omega arith }
+pub going-start : (s : Server) (limit ran : ℕ) → length (s .records) ≡ 64 → length (s .counters .list) ≡ 16 → (0 < limit → formed s ≡ true) → ran ≡ readLog (s .log) .word → Going s limit ran s limit
+going-start s limit ran l k f e = record {
+  few = omega arith;
+  same = refl;
+  deps = refl;
+  commits = refl;
+  word = λ h. e ∙ read-ran s (f h);
+  old = λ h. subst (Sub (ranWord s)) (sym (e ∙ read-ran s (f h))) (sub-refl (ranWord s));
+  kept = λ h. subst (Kept (depsOf s) (committedWord s)) (sym (e ∙ read-ran s (f h))) (log-kept s (formed-parts s (f h)));
+  count = λ h. sym (ap size (e ∙ read-log s (f h)) ∙ lined-size (s .log) (formed-lined s (formed-parts s (f h))));
+  long = l;
+  keys = k;
+  id = refl;
+  more = omega arith;
+}
 
 group-over : (n : Server) (g : ℕ) → runGroup n g ≡ over runOne n g 64
 unfolding runGroup
 group-over n g = refl
+
+over-keys : (n : Server) (g u : ℕ) → length (over runOne n g u .counters .list) ≡ length (n .counters .list)
+over-keys n g u = over-keeps (λ x. length (x .counters .list) ≡ length (n .counters .list)) runOne n g u refl (λ x i l e p. one x i ∙ p)
+  where
+    one : (x : Server) (i : ℕ) → length (runOne x i .counters .list) ≡ length (x .counters .list)
+    one x i = unfold runOne in counters-length (recordAt x i .pieces) (shard x) (x .counters)
 
 turns-next : (left : ℕ) (n : Server) → 0 < left → (nextRun n ≡ 0 → ⊥) → turns (left - 1) (runGroup n (nextRun n)) ≡ turns left n
 turns-next zero n h ne = absurd (omega (arith, h))
@@ -61,50 +141,74 @@ module _ {s : Server} {limit ran : ℕ} {n : Server} {left : ℕ} (go : Going s 
   pub going-done : left ≡ 0 → n ≡ turns limit s
   going-done e = sym (turns-none n) ∙ ap (λ (k : ℕ). turns k n) (sym e) ∙ go .same
 
-  module _ (g : ℕ) (found : g ≡ nextGroup (rowsOf (depsOf s)) (committedWord s) ran) where
+  module _ {k committed : ℕ} {form : Bool} {rows : List ℕ} (asked : Asked s k form committed rows limit) (g : ℕ) (found : g ≡ nextGroup rows committed ran) (h : 0 < left) where
+    next-of : g ≡ nextGroup (rowsOf (depsOf s)) (committedWord s) ran
+    next-of =
+        found
+        ∙ ap₂ (λ (r : List ℕ) (c : ℕ). nextGroup r c ran) (asked .graph) (asked .commits)
+        ∙ next-unrun s (asked .fine (omega (arith, go .few))) (asked .words) ran (go .old h)
+
     next-is : g ≡ nextRun n
     unfolding nextRun
-    next-is = found ∙ rw (go .deps, go .commits, go .word)
+    next-is = next-of ∙ rw (go .deps, go .commits, go .word h)
 
     -- nothing is ready
     pub going-idle : g ≡ 0 → n ≡ turns limit s
     going-idle e = sym (turns-stop left n (sym next-is ∙ e)) ∙ go .same
 
     -- one run more
-    pub going-on : 0 < left → g < 2 ^ 64 → (g ≡ 0 → ⊥) → (m : Server) → m ≡ over runOne n g 64 → Going s limit (union ran g) m (left - 1)
-    going-on h b ne m e =
+    pub going-on : g < 2 ^ 64 → (g ≡ 0 → ⊥) → (m : Server) → m ≡ over runOne n g 64 → Going s limit (union ran g) m (left - 1)
+    going-on b ne m e =
         let all : m ≡ runGroup n g = e ∙ sym (group-over n g) in
+        let many = ap (λ (x : Server). x .log .count) all ∙ group-count n g in
         record {
           few = omega (arith, go .few);
           same = ap (turns (left - 1)) (all ∙ ap (runGroup n) next-is) ∙ turns-next left n h (λ z. ne (next-is ∙ z)) ∙ go .same;
           deps = ap depsOf all ∙ group-deps n g ∙ go .deps;
           commits = ap committedWord all ∙ group-committed-word n g ∙ go .commits;
-          word = ap (λ (x : ℕ). union x g) (go .word) ∙ sym (group-ran n g (go .long) b) ∙ ap ranWord (sym all);
+          word = λ l. ap (λ (x : ℕ). union x g) (go .word h) ∙ sym (group-ran n g (go .long) b) ∙ ap ranWord (sym all);
+          old = λ l. sub-trans (go .old h) (sub-left ran g);
+          kept = λ l. rw next-of (next-keeps (depsOf s) (asked .words) (committedWord s) ran (go .kept h));
+          count = λ l. many ∙ ap (λ (x : ℕ). x + size g) (go .count h) ∙ sym added;
           long = ap (λ (x : Server). length (x .records)) all ∙ group-long n g ∙ go .long;
+          keys = ap (λ (x : Server). length (x .counters .list)) e ∙ over-keys n g 64 ∙ go .keys;
           id = ap (λ (x : Server). x .id) all ∙ group-id n g ∙ go .id;
-          more = omega (arith, ap (λ (x : Server). x .log .count) all, group-count n g, go .more);
-          fits = omega (arith, ap (λ (x : Server). x .log .count) all, group-count n g, size-le g, go .fits);
+          more = omega (arith, many, go .more);
         }
+      where
+        added : size (union ran g) ≡ size ran + size g
+        added = rw next-of (next-adds (depsOf s) (asked .words) (committedWord s) ran (go .kept h))
+
+    room : size ran + size g ≤ 64
+    room = rw next-of (next-room (depsOf s) (asked .words) (committedWord s) ran (go .kept h))
+
+    -- the log has room for the next number of g
+    pub going-room : (u : ℕ) → u < 64 → has g u ≡ true → (m : Server) → m ≡ over runOne n g u → m .log .count < 64
+    unfolding size
+    going-room u l i m e =
+        omega (arith, ap (λ (x : Server). x .log .count) e, over-count n g u, go .count h, counted-less (has g) u 64 l i, room)
 
   -- the numbers of g below u have run
   module _ (g u : ℕ) (m : Server) (e : m ≡ over runOne n g u) where
-    pub going-id : m .id ≡ s .id
-    going-id = ap (λ (x : Server). x .id) e ∙ over-id n g u ∙ go .id
+    pub going-shard : shard s ≡ shard m
+    going-shard = sym (ap (λ (x : Server). shard x) e ∙ ap shardOf (over-id n g u ∙ go .id))
 
-    pub going-fits : limit ≤ 64 → u ≤ 64 → m .log .count ≤ 65536
-    going-fits h l = omega (arith, ap (λ (x : Server). x .log .count) e, over-count n g u, count-le (has g) u, go .fits)
+    pub going-keys : length (m .counters .list) ≡ 16
+    going-keys = ap (λ (x : Server). length (x .counters .list)) e ∙ over-keys n g u ∙ go .keys
+
+-- ---- one number
+
+-- the pieces of one number below i have run
+module _ (ps : Pieces) (k : ℕ) (c : Counters) (i : ℕ) (x : Executed) (e : x ≡ iter (runEntry ps k) (begun c) i) where
+  -- there are at most i results
+  pub part-count : x .values .count ≤ i
+  part-count = omega (arith, ap (λ (y : Executed). y .values .count) e, count-after ps k i (begun c) refl, count-le (onShard ps k) i)
+
+  pub part-keys : length (c .list) ≡ 16 → length (x .counters .list) ≡ 16
+  part-keys l = ap (λ (y : Executed). length (y .counters .list)) e ∙ length-after ps k (begun c) i ∙ l
 
 -- the stores for one number are its run
-pub one-stored : (n : Server) (u k : ℕ) (done : Executed) (log : Log) → k ≡ shard n → done ≡ execute (recordAt n u .pieces) k (n .counters) → log ≡ append (n .log) u → record { id = n .id; records = set (n .records) u (withResults (done .values) (recordAt n u)); counters = done .counters; log = log } ≡ runOne n u
+pub one-stored : (n : Server) (u k : ℕ) → k ≡ shard n → (c : Counters) (r : Values) → record { counters = c; values = r } ≡ execute (recordAt n u .pieces) k (n .counters)
+    → record { id = n .id; records = set (n .records) u (withResults r (recordAt n u)); counters = c; log = append (n .log) u } ≡ runOne n u
 unfolding runOne
-one-stored n u k done log p q r =
-    ap (λ (l : Log). record { id = n .id; records = set (n .records) u (withResults (done .values) (recordAt n u)); counters = done .counters; log = l }) r
-    ∙ ap (stored n u) (q ∙ ap (λ (x : ℕ). execute (recordAt n u .pieces) x (n .counters)) p)
-
--- a log in form has room to count
-pub formed-count : (s : Server) → formed s ≡ true → s .log .count ≤ 64
-unfolding formed logFormed
-formed-count s e =
-    leb-true (s .log .count) 64 (and-yes-l (leb (s .log .count) 64) (allBelow (entryFormed s) (s .log .count))
-    (and-yes-r (not (badServer (s .id)) && allBelow (recordFormedAt s) 64) (logFormed s)
-    (and-yes-l (not (badServer (s .id)) && allBelow (recordFormedAt s) 64 && logFormed s) (allBelow (resultsFormedAt s) 64) e)))
+one-stored n u k p c r q = ap (stored n u) (q ∙ ap (λ (x : ℕ). execute (recordAt n u .pieces) x (n .counters)) p)

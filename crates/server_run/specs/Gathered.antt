@@ -7,17 +7,16 @@ use Rattle.rules.specs.Sets.{noSet}
 use Rattle.rules.specs.declared.Set.{Set}
 use Rattle.rules.specs.declared.MaybeSet.{MaybeSet}
 use Rattle.server.specs.declared.Server.{Server}
-use Rattle.server.specs.Held.{committedWord, ranWord}
-use Rattle.server.specs.Run.{depsOf}
-use Rattle.server_run.specs.declared.Survey.{Survey}
+use Rattle.server.specs.Run.{depsAt}
+use Rattle.server_form.specs.OnePass.{readLog}
 
 -- the set that is committed, or nothing
 unfoldable pub named : MaybeSet → Set
 named c = c .set if there (c .some) else noSet
 
--- the direct dependencies of each number, the committed numbers, and those that have run
-abbrev pub gathered : Server → Survey
-gathered s = record { deps = depsOf s; committed = committedWord s; ran = ranWord s }
+-- the numbers of t's committed set that are not in the log, in one word
+unfoldable pub unrunAt : Server → ℕ → ℕ
+unrunAt s t = without (depsAt s t) (readLog (s .log) .word)
 
 -- what is in v and not in w, shard by shard
 abbrev pub setWithout : Set → ℕ → Set

@@ -1,1 +1,2 @@
 pub mod Gathered
+pub mod Limited

@@ -2,14 +2,13 @@
 ghost use mathlib.Core.Path.{_≡_};
 ghost use Rattle.rules.specs.Sets.{setOf};
 ghost use Rattle.server.specs.Host.{wantedIn};
-ghost use Rattle.server_run.specs.Gathered.{named, gathered, setWithout};
-use crate::Survey;
+ghost use Rattle.server_run.specs.Gathered.{named, setWithout};
 use rules::MaybeSet;
 use rules::Set;
 use server::Server;
 
 // The set that is committed, or nothing.
-fn named(c: MaybeSet) -> Set
+pub fn named(c: MaybeSet) -> Set
     ensures { λ r. ⌜ r ≡ named c ⌝ }
 {
     let held = c.some != 0;
@@ -22,27 +21,6 @@ fn named(c: MaybeSet) -> Set
             w2: 0,
             w3: 0,
         }
-    }
-}
-
-// What a run asks of the records.
-pub fn survey(s: Server) -> Survey
-    ensures { λ r. ⌜ r ≡ gathered s ⌝ }
-{
-    let mut deps = [0u64; 64];
-    let mut committed: u64 = 0;
-    let mut ran: u64 = 0;
-    for t in 0..64 {
-        let v = s.records[t];
-        let own = named(v.committed);
-        deps[t] = rules::sets::members(own);
-        committed = masks::put(committed, t, v.committed.some != 0);
-        ran = masks::put(ran, t, v.ran != 0);
-    }
-    Survey {
-        deps,
-        committed,
-        ran,
     }
 }
 

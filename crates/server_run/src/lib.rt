@@ -10,14 +10,7 @@ use server::Wants;
 
 pub mod first; // first.rt: what is there at first
 mod gather; // gather.rt: what the records say, in one pass
-mod running; // running.rt: runs one after the other
-
-// What one pass over the records gathers for a run: the direct dependencies of each number, the committed numbers, and those that have run.
-pub struct Survey {
-    pub deps: [u64; 64],
-    pub committed: u64,
-    pub ran: u64,
-}
+pub mod running; // running.rt: runs one after the other
 
 // A fresh server in the place of the lent one; 1 where there is no server `id`.
 pub fn fresh(s: Server, id: u32) -> Begun
@@ -38,30 +31,14 @@ pub fn fresh(s: Server, id: u32) -> Begun
 pub fn run(s: Server) -> Ran
     ensures { λ r. ⌜ r ≡ run s ⌝ }
 {
-    let fine = server_form::formed(s);
-    if fine {
-        return running::repeated(s, 1);
-    }
-    Ran {
-        refusal: 13,
-        many: 0,
-        server: s,
-    }
+    running::repeated(s, 1)
 }
 
 // Runs until nothing is ready, and how many numbers ran in all. No more than 64 runs are ever needed: each runs a number that had not run.
 pub fn run_all(s: Server) -> Ran
     ensures { λ r. ⌜ r ≡ runAll s ⌝ }
 {
-    let fine = server_form::formed(s);
-    if fine {
-        return running::repeated(s, 64);
-    }
-    Ran {
-        refusal: 13,
-        many: 0,
-        server: s,
-    }
+    running::repeated(s, 64)
 }
 
 // The numbers that committed sets name and that are not committed here, shard by shard.

@@ -24,7 +24,8 @@ use Rattle.server.specs.Held.{recordAt, shard}
 use Rattle.server.specs.Form.{formed}
 use Rattle.server.specs.Refusals.{notTaken, untouched, otherPieces, otherSet, refusal}
 use Rattle.server.specs.Serve.{cameEarlier, arrivalSet, fixes, arrivalFor, refused, taken, serve}
-use Rattle.server_step.specs.OneStore.{firstRefusal, refusalBy, changeBy, looked, placeOf, answer, stepBy}
+use Rattle.server_step.specs.declared.Considered.{Considered}
+use Rattle.server_step.specs.OneStore.{firstRefusal, refusalBy, changeBy, looked, placeOf, consideredAt, considered, stored}
 
 -- ---- who came earlier, by keys
 
@@ -68,6 +69,11 @@ pub place-lt : (t i : ℕ) → i ≡ placeOf t → i < 64
 unfolding placeOf
 place-lt t i p = rw p (⊎-elim (λ e. rw e (omega arith)) (λ e. rw e (omega (arith, leb-false 64 t e))) (true-or-false (leb 64 t)))
 
+-- the place that a step stores at
+pub place-is : (s : Server) (m : Message) (c : Considered) → c ≡ considered s m → c .place ≡ placeOf (m .t)
+unfolding considered consideredAt
+place-is s m c e = ap (λ (x : Considered). x .place) e
+
 pub looked-le : (b : Bool) (n : ℕ) → n ≡ looked b → n ≤ 64
 unfolding looked
 looked-le true n p = omega arith
@@ -75,8 +81,8 @@ looked-le false n p = omega arith
 
 module _ (s : Server) (m : Message) where
   -- on a refusal the record is stored as it was read
-  pub as-lent : (i n : ℕ) → eqb n 0 ≡ false → answer s i n (recordAt s i) m ≡ refused s n
-  unfolding answer changeBy
+  pub as-lent : (i n : ℕ) → eqb n 0 ≡ false → stored s (consideredAt s i n (recordAt s i) m) ≡ refused s n
+  unfolding consideredAt changeBy
   as-lent i n e = rw (e, set-getD)
 
   word-is : (b : Bool) → maskOf (cameEarlier s (m .pieces)) (looked b) ≡ cond b (arrivalSet s (m .pieces)) 0
@@ -84,12 +90,12 @@ module _ (s : Server) (m : Message) where
   word-is true = refl
   word-is false = sym (mask-none (cameEarlier s (m .pieces)))
 
-  pub as-changed : (n : ℕ) → n ≡ 0 → answer s (m .t) n (recordAt s (m .t)) m ≡ taken s m
-  unfolding answer changeBy taken arrivalFor
+  pub as-changed : (n : ℕ) → n ≡ 0 → stored s (consideredAt s (m .t) n (recordAt s (m .t)) m) ≡ taken s m
+  unfolding consideredAt changeBy taken arrivalFor
   as-changed n e = rw (e, word-is (fixes (recordAt s (m .t)) m))
 
-  number : badNumber (m .t) ≡ false → stepBy s m ≡ serve s m
-  unfolding stepBy placeOf serve
+  number : badNumber (m .t) ≡ false → stored s (considered s m) ≡ serve s m
+  unfolding considered placeOf serve
   number e =
       rw (e, ← refusal-is s m)
       (⊎-elim
@@ -97,8 +103,8 @@ module _ (s : Server) (m : Message) where
       (λ h. rw h (as-lent (m .t) (refusal s m) h))
       (true-or-false (eqb (refusal s m) 0)))
 
-  no-number : badNumber (m .t) ≡ true → stepBy s m ≡ serve s m
-  unfolding stepBy placeOf serve
+  no-number : badNumber (m .t) ≡ true → stored s (considered s m) ≡ serve s m
+  unfolding considered placeOf serve
   no-number e =
       let n = refusalBy (formed s) (shard s) (recordAt s 0) m in
       let same : n ≡ refusal s m = any-record (formed s) (shard s) (recordAt s 0) m e (recordAt s (m .t)) ∙ sym (refusal-is s m) in
@@ -106,7 +112,7 @@ module _ (s : Server) (m : Message) where
       let refused-too : eqb (refusal s m) 0 ≡ false = ap (λ (x : ℕ). eqb x 0) (sym same) ∙ bad in
       rw (e, refused-too) (as-lent 0 n bad ∙ ap (refused s) same)
 
-  pub step-is-serve : stepBy s m ≡ serve s m
+  pub step-is-serve : stored s (considered s m) ≡ serve s m
   step-is-serve = ⊎-elim no-number number (true-or-false (badNumber (m .t)))
 
   -- a message that is not refused is of a number

@@ -13,6 +13,7 @@ use Rattle.server.specs.declared.Record.{Record}
 use Rattle.server.specs.declared.Server.{Server}
 use Rattle.server.specs.declared.Changed.{Changed}
 use Rattle.server.specs.declared.Served.{Served}
+use Rattle.server_step.specs.declared.Considered.{Considered}
 use Rattle.server.specs.Held.{recordAt, putRecord, shard}
 use Rattle.server.specs.Form.{formed}
 use Rattle.server.specs.Refusals.{notTaken, untouched, otherPieces, otherSet}
@@ -57,13 +58,16 @@ looked b = NUMBERS if b else 0
 unfoldable pub placeOf : ℕ → ℕ
 placeOf t = 0 if badNumber t else t
 
-abbrev pub answered : Server → (i n : ℕ) → Changed → Served
-answered s i n c = record { refusal = n; reply = c .reply; server = putRecord s i (c .after) }
+-- what the step with the record v of place i and the refusal n comes to
+unfoldable pub consideredAt : Server → (i n : ℕ) → Record → Message → Considered
+consideredAt s i n v m =
+    let c = changeBy n (s .id) (maskOf (cameEarlier s (m .pieces)) (looked (eqb n 0 && fixes v m))) v m in
+    record { refusal = n; place = i; before = v; after = c .after; reply = c .reply }
 
--- the step with the record v of place i and the refusal n
-unfoldable pub answer : Server → (i n : ℕ) → Record → Message → Served
-answer s i n v m = answered s i n (changeBy n (s .id) (maskOf (cameEarlier s (m .pieces)) (looked (eqb n 0 && fixes v m))) v m)
+unfoldable pub considered : Server → Message → Considered
+considered s m =
+    consideredAt s (placeOf (m .t)) (refusalBy (formed s) (shard s) (recordAt s (placeOf (m .t))) m) (recordAt s (placeOf (m .t))) m
 
-unfoldable pub stepBy : Server → Message → Served
-stepBy s m =
-    answer s (placeOf (m .t)) (refusalBy (formed s) (shard s) (recordAt s (placeOf (m .t))) m) (recordAt s (placeOf (m .t))) m
+-- the one record is stored
+abbrev pub stored : Server → Considered → Served
+stored s c = record { refusal = c .refusal; reply = c .reply; server = putRecord s (c .place) (c .after) }

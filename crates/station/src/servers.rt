@@ -3,6 +3,7 @@ ghost use mathlib.Core.Path.{_≡_};
 ghost use Rattle.door.specs.Exchange.{take};
 ghost use Rattle.server.specs.Host.{fresh, wanted};
 ghost use Rattle.server.specs.Run.{run, runAll};
+ghost use Rattle.server_run.specs.Limited.{ranUpTo};
 ghost use Rattle.door.specs.Told.{counted};
 ghost use Rattle.door.specs.Readings.{counter, logEntry, result};
 use door::Answer;
@@ -32,7 +33,19 @@ pub extern "C" fn drobulets_server_take(s: &mut Server, input: &[u8], output: &m
 {
     let o = door::exchange::take(*s, input, output);
     let answer = door::told::taken_answer(o);
-    *s = door::told::taken_server(o);
+    let i = door::told::taken_place(o);
+    let v = door::told::taken_record(o);
+    s.records[i] = v;
+    answer
+}
+
+// At most `limit` runs. Both exported functions pass their server on to this one, so the work has one caller, and the compiler lays it in here with no copy of its own.
+pub fn runs(s: &mut Server, limit: u32) -> Counted
+    ensures { λ r. ⌜ (r ≡ counted (ranUpTo limit (now (s .entry)))) × (now (s .exit) ≡ ranUpTo limit (now (s .entry)) .server) ⌝ }
+{
+    let o = server_run::running::repeated(*s, limit);
+    let answer = door::told::ran_counted(o);
+    *s = door::told::ran_server(o);
     answer
 }
 
@@ -41,10 +54,7 @@ pub extern "C" fn drobulets_server_take(s: &mut Server, input: &[u8], output: &m
 pub extern "C" fn drobulets_server_run(s: &mut Server) -> Counted
     ensures { λ r. ⌜ (r ≡ counted (run (now (s .entry)))) × (now (s .exit) ≡ run (now (s .entry)) .server) ⌝ }
 {
-    let o = server_run::run(*s);
-    let answer = door::told::ran_counted(o);
-    *s = door::told::ran_server(o);
-    answer
+    runs(s, 1)
 }
 
 // Runs until nothing is ready.
@@ -52,10 +62,7 @@ pub extern "C" fn drobulets_server_run(s: &mut Server) -> Counted
 pub extern "C" fn drobulets_server_run_all(s: &mut Server) -> Counted
     ensures { λ r. ⌜ (r ≡ counted (runAll (now (s .entry)))) × (now (s .exit) ≡ runAll (now (s .entry)) .server) ⌝ }
 {
-    let o = server_run::run_all(*s);
-    let answer = door::told::ran_counted(o);
-    *s = door::told::ran_server(o);
-    answer
+    runs(s, 64)
 }
 
 // The wanted set.

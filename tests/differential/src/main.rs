@@ -7,7 +7,6 @@ mod at_server;
 mod compare;
 mod coverage;
 mod messages;
-mod numbers;
 mod states;
 mod values;
 

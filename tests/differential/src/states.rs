@@ -1,10 +1,10 @@
 //! States to lend: reached by steps of the model, then left so, dressed with rubbish where it is ignored, or damaged.
 
 use crate::messages::{for_drive, for_server};
-use crate::numbers::Numbers;
 use crate::values::{ballot, damage, edge, fill, usual_pieces, FEW};
 use chance::Chance;
-use engine::{image, layout, Engine, Plain, LONGEST};
+use engine::layout::{self, Numbers};
+use engine::{image, Engine, Plain, LONGEST};
 use model::cluster::origin;
 
 /// How a state is changed before it is lent.

@@ -1,7 +1,7 @@
 //! Values at which rules begin and end, and pieces, sets and messages made of them.
 
-use crate::numbers::{Numbers, Place};
 use chance::Chance;
+use engine::layout::{Numbers, Place};
 use model::{Piece, Pieces, Set};
 
 /// The transaction numbers that most messages are about.

@@ -111,7 +111,7 @@ pub fn server_image(server: &Server) -> layout::Server {
 }
 
 pub fn drive(image: &layout::Drive) -> Drive {
-    let answer = |a: layout::Answer| maybe(a.counted, Answer { word: word(&a.arrival), accepted: vote(&a.accepted) });
+    let answer = |a: layout::Slot| maybe(a.counted, Answer { word: word(&a.arrival), accepted: vote(&a.accepted) });
     Drive {
         t: image.t,
         coordinator: image.coordinator,
@@ -126,7 +126,7 @@ pub fn drive(image: &layout::Drive) -> Drive {
 
 pub fn drive_image(drive: &Drive) -> layout::Drive {
     let answer = |answer: Option<Answer>| {
-        answer.map_or(Default::default(), |a| layout::Answer {
+        answer.map_or(Default::default(), |a| layout::Slot {
             counted: 1,
             arrival: word_image(a.word),
             accepted: vote_image(a.accepted),

@@ -3,12 +3,12 @@
 #[cfg(feature = "archive")]
 pub mod archive;
 pub mod image;
-pub mod layout;
 pub mod plain;
 pub mod text;
 
 use model::{Pieces, Refusal, Set};
 
+pub use drobulets::layout;
 pub use model::codec::LONGEST;
 pub use plain::Plain;
 

@@ -9,6 +9,7 @@
 //! | `calm` | what follows each: all trunks up, every number driven to its end |
 //! | `checks` | agreement, one order, equal counters and results |
 //! | `history` | one seed, one history |
+//! | `news` | what one who watches a history wants to know; the program `demo` shows it |
 
 pub mod calm;
 pub mod checks;
@@ -17,6 +18,7 @@ pub mod day;
 pub mod duel;
 pub mod history;
 pub mod net;
+pub mod news;
 pub mod scenario;
 pub mod storm;
 pub mod story;

@@ -9,7 +9,7 @@ use Rattle.drive_form.proofs.walk.Statement.{statement}
 use Rattle.drive_form.proofs.walk.Tie as tie
 
 abbrev Inv-loop : tie.InvT-loop
-Inv-loop shards d l₀ s₀ l s = (s ≤ 12) × (l ≡ walkedTo d s)
+Inv-loop shards d l₀ s₀ l s = (s ≤ 12) × (l ≡ walkedTo d shards s)
 
 abbrev μ-loop : tie.MeasureT-loop
 μ-loop shards d l₀ s₀ l s = 12 - s
@@ -18,7 +18,7 @@ at-first-requires : tie.Need-at-first-requires Inv-loop μ-loop
 at-first-requires c κs = search needs
 
 loop-holds : tie.Need-loop-holds Inv-loop μ-loop
-loop-holds c = (search needs, c .at-first .ensures ∙ walked-first _)
+loop-holds c = (search needs, c .at-first .ensures ∙ walked-first _ _)
 
 mul-a : tie.Need-mul-a Inv-loop μ-loop
 mul-a c = search needs
@@ -36,10 +36,10 @@ loop-less : tie.Need-loop-less Inv-loop μ-loop
 loop-less c = search needs
 
 loop-again : tie.Need-loop-again Inv-loop μ-loop
-loop-again c = (search needs, rw (c .further .ensures, walked-further, c .before .before .before .before .before .pre, c .before .before .before .loop .inv .1))
+loop-again c = (search needs, rw (c .further .ensures, walked-further, c .before .before .before .loop .inv .1))
 
 returns : tie.Need-returns Inv-loop μ-loop
-returns c = c .before .loop .inv .1 ∙ ap (walkedTo _) (omega arith)
+returns c = c .before .loop .inv .1 ∙ ap (walkedTo _ _) (omega arith)
 
 pub walk-spec : {M : Type 1} → statement M
 walk-spec =

@@ -9,11 +9,12 @@ use borrow.Author.Needs.{needs}
 use borrow.Author.Count.{below-none, below-more}
 use Rattle.masks.specs.Folds.{anyBelow}
 use Rattle.masks.proofs.Bools.{or-no}
-use Rattle.masks.proofs.Turns.{any-none, any-step}
+use Rattle.masks.proofs.Turns.{any-step}
 use Rattle.masks.proofs.FoldLaws.{any-of, found-least, least-all-no}
 use Rattle.graph.specs.Walk.{before, awaited, ready, firstReady}
 use Rattle.graph.proofs.Arrays.{words}
 use Rattle.graph.proofs.Waiting.{not-waiting, still-awaiting, nothing-awaited}
+use Rattle.graph.proofs.InWords.{walk-starts}
 use Rattle.graph.proofs.first_ready.Statement.{statement}
 use Rattle.graph.proofs.first_ready.Tie as tie
 
@@ -41,8 +42,17 @@ array-read-row c = omega arith
 waits-requires : tie.Need-waits-requires Inv-loop μ-loop Inv-search μ-search
 waits-requires c κs = omega arith
 
+without-requires : tie.Need-without-requires Inv-loop μ-loop Inv-search μ-search
+without-requires c κs = omega arith
+
+walk-from-requires : tie.Need-walk-from-requires Inv-loop μ-loop Inv-search μ-search
+walk-from-requires c κs = omega arith
+
 loop-holds : tie.Need-loop-holds Inv-loop μ-loop Inv-search μ-search
-loop-holds c = (search needs, sym (any-none _))
+loop-holds c =
+    let at-search = c .before .before .before .before .before in
+    let start = at-search .before in
+    walk-starts (start .args .t1) (start .args .ran) (at-search .search .t) (omega arith) (c .before .without .result) (c .before .without .ensures) (c .walk-from .result) (c .walk-from .ensures)
 
 mul-awaits : tie.Need-mul-awaits Inv-loop μ-loop Inv-search μ-search
 mul-awaits c = omega arith
@@ -81,7 +91,7 @@ search-again c =
     let t = at-search .search .t in
     let word = words rows (start .good .0) t in
     let passed : ready rows (start .args .committed) ran t ≡ false =
-    ⊎-elim (λ x. still-awaiting rows _ t ran word (any-of (awaited rows ran t) 64 (x .1 .u) (omega (arith, x .1 .inv .0, x .2 .left)) (sym (x .3 .ensures) ∙ x .4 .taken)))
+    ⊎-elim (λ x. still-awaiting rows _ t ran word (any-of (awaited rows ran t) 64 (x .3 .u) (omega (arith, x .3 .inv .0, x .4 .left)) (sym (x .5 .ensures) ∙ x .6 .taken)))
     (λ x. not-waiting rows _ t ran word (sym (c .before .waits .ensures) ∙ x .left)) (c .if2 .came) in
     (omega arith, below-more _ _ (at-search .search .inv .1) passed)
 
@@ -94,14 +104,14 @@ returns c =
 returns-2 : tie.Need-returns-2 Inv-loop μ-loop Inv-search μ-search
 unfolding firstReady
 returns-2 c =
-    let at-waits = c .before .before .before in
+    let at-waits = c .before .before .before .before .before in
     let at-search = at-waits .before .before in
     let start = at-search .before in
     let rows = start .args .t1 in
     let t = at-search .search .t in
     let end : c .before .loop .u ≡ 64 = c .if3 .taken in
     sym (found-least (ready rows (start .args .committed) (start .args .ran)) 64 t (omega arith)
-    (nothing-awaited rows _ t _ (words rows (start .good .0) t) (sym (at-waits .waits .ensures) ∙ c .before .before .if2 .taken)
+    (nothing-awaited rows _ t _ (words rows (start .good .0) t) (sym (at-waits .waits .ensures) ∙ c .before .before .before .before .if2 .taken)
     (sym (ap (anyBelow (awaited rows (start .args .ran) t)) end) ∙ c .before .loop .inv .1))
     (at-search .search .inv .1))
 
@@ -117,6 +127,8 @@ first-ready-spec =
     mul-row
     array-read-row
     waits-requires
+    without-requires
+    walk-from-requires
     loop-holds
     mul-awaits
     array-read-awaits

@@ -1,24 +1,15 @@
 -- `server_run::run_all` meets its contract. Assumes nothing.
-use mathlib.Core.Path.{sym, _∙_}
-use Rattle.server.specs.Run.{runAll}
-use Rattle.server_run.proofs.Turning.{formed-count}
+use mathlib.Core.Path.{_∙_}
+use Rattle.server_run.proofs.Turning.{run-until}
 use borrow.Author.Needs.{needs}
 use Rattle.server_run.proofs.run_all.Statement.{statement}
 use Rattle.server_run.proofs.run_all.Tie as tie
 
-formed-requires : tie.Need-formed-requires
-formed-requires c κs = search needs
-
 repeated-requires : tie.Need-repeated-requires
-repeated-requires c κs = (formed-count (c .before .before .args .s) (sym (c .before .formed .ensures) ∙ c .if1 .taken), search needs)
+repeated-requires c κs = search needs
 
 returns : tie.Need-returns
-unfolding runAll
-returns c = rw (← c .before .before .formed .ensures, c .before .if1 .taken) (c .repeated .ensures)
-
-returns-2 : tie.Need-returns-2
-unfolding runAll
-returns-2 c = rw (← c .before .formed .ensures, c .if1 .left)
+returns c = c .repeated .ensures ∙ run-until (c .before .args .s)
 
 pub run-all-spec : {M : Type 1} → statement M
-run-all-spec = tie.close (tie.spec formed-requires repeated-requires returns returns-2)
+run-all-spec = tie.close (tie.spec repeated-requires returns)

@@ -1,6 +1,7 @@
 //! The steps of drives.
 
 use super::{Cluster, Live};
+use crate::news::News;
 use engine::{due, text, Engine};
 use model::cluster::{origin, SERVERS};
 use model::{codec, Message, Pieces, Refusal};
@@ -10,7 +11,7 @@ impl<E: Engine> Cluster<'_, E> {
     pub fn begin(&mut self, t: u32, pieces: Pieces) -> usize {
         self.transactions.insert(t, pieces);
         let coordinator = origin(t);
-        self.story.tell(|| format!("coordinator {coordinator} starts T{t} {}", text::pieces(&pieces)));
+        self.report(News::Begun { coordinator, t, pieces });
         let mut drive = self.engine.blank();
         let started = self.engine.start(&mut drive, coordinator, t, &pieces);
         self.lawful(started, &[], "Start");
@@ -32,7 +33,7 @@ impl<E: Engine> Cluster<'_, E> {
             }
         }
         let floor = self.taken.get(&(coordinator, t)).copied().unwrap_or(0).max(floor);
-        self.story.tell(|| format!("coordinator {coordinator} recovers T{t} above {floor}"));
+        self.report(News::Recovered { coordinator, t, floor });
         self.tally.recovered += 1;
         let mut drive = self.engine.blank();
         let recovered = self.engine.recover(&mut drive, coordinator, t, &self.pieces(t), floor);
@@ -60,7 +61,7 @@ impl<E: Engine> Cluster<'_, E> {
     pub fn vanish(&mut self, slot: usize) {
         if let Some(live) = self.live[slot].take() {
             self.tally.vanished += 1;
-            self.story.tell(|| format!("the drive of coordinator {} for T{} vanishes", live.coordinator, live.t));
+            self.report(News::Vanished { coordinator: live.coordinator, t: live.t });
         }
     }
 

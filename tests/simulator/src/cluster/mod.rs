@@ -4,6 +4,7 @@ mod drives;
 mod watch;
 
 use crate::checks::Fault;
+use crate::news::News;
 use crate::story::Story;
 use crate::tally::Tally;
 use engine::{ask, text, Engine};
@@ -31,6 +32,8 @@ pub struct Cluster<'e, E: Engine> {
     /// The highest ballot that a coordinator took for a number, so that none is taken twice.
     taken: BTreeMap<(u32, u32), u32>,
     pub story: Story,
+    /// What happened that a watcher wants to know.
+    pub news: Vec<News>,
     pub tally: Tally,
     pub fault: Option<Fault>,
 }
@@ -48,6 +51,7 @@ impl<'e, E: Engine> Cluster<'e, E> {
             committed: BTreeMap::new(),
             taken: BTreeMap::new(),
             story: Story::new(told),
+            news: Vec::new(),
             tally: Tally::default(),
             fault: None,
         }
@@ -73,6 +77,12 @@ impl<'e, E: Engine> Cluster<'e, E> {
     /// The number that a drive carries, if it is at work.
     pub fn carried(&self, slot: usize) -> Option<u32> {
         self.live[slot].as_ref().map(|live| live.t)
+    }
+
+    /// Notes what happened, and tells it.
+    pub fn report(&mut self, news: News) {
+        self.story.tell(|| news.to_string());
+        self.news.push(news);
     }
 
     /// A server takes a message and answers it.
@@ -104,7 +114,7 @@ impl<'e, E: Engine> Cluster<'e, E> {
         self.tally.ran += u64::from(many);
         self.tally.groups += u64::from(!until_0 && many > 1);
         let seen = self.engine.see_server(&self.servers[place]);
-        self.story.tell(|| format!("server {server} runs {many}: log {}", text::numbers(seen.log.entries())));
+        self.report(News::Ran { server, many, log: seen.log.entries().to_vec() });
         let before = std::mem::replace(&mut self.ran[place], seen);
         self.watch_runs(place, &before, many);
         many

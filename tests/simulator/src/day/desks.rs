@@ -1,9 +1,11 @@
 //! The hosts of the drives: what they send, and when they move on or give up.
 
 use super::{Address, Day, Desk, Event, Letter, Task};
-use crate::net::{Time, Trunk, SECOND};
+use crate::net::{Time, Trunk, HOUR, MINUTE, SECOND};
+use crate::news::Inside;
 use crate::work;
 use engine::Engine;
+use model::cluster::COORDINATORS;
 use model::{codec, Message};
 
 /// How often a message is sent before the host moves on, and before it goes on at its next ballot or gives up a Commit.
@@ -41,23 +43,44 @@ impl<E: Engine> Day<'_, '_, E> {
         let letter = |server: &u32| Letter { from, to: Address::Server(*server), bytes: bytes.clone() };
         let letters = servers.iter().filter(|server| !desk.told.contains(server)).map(letter).collect();
         let arrivals = self.post(letters);
-        if is_new && self.chance.percent(self.weather.cut) {
-            self.cut_inside(coordinator, arrivals);
+        if self.is_doomed(&bytes) {
+            self.break_off(coordinator, bytes, arrivals);
+        } else if is_new && self.chance.percent(self.weather.cut) {
+            self.cut_inside(coordinator, bytes, arrivals);
         }
     }
 
-    /// Cuts the trunks to those that haven't got their letter yet, at a moment when others have.
-    fn cut_inside(&mut self, coordinator: u32, mut arrivals: Vec<(Time, u32)>) {
+    /// Whether this is the Commit of the number that is to be cut half-way.
+    fn is_doomed(&self, bytes: &[u8]) -> bool {
+        let is_commit = |doomed| matches!(codec::decode(bytes), Ok(Message::Commit { t, .. }) if t == doomed);
+        self.doomed.map_or(false, is_commit)
+    }
+
+    /// Cuts a Commit half-way, and its coordinator is without power in the same moment. Minutes later another recovers the number.
+    fn break_off(&mut self, coordinator: u32, bytes: Vec<u8>, arrivals: Vec<(Time, u32)>) {
+        let cut = self.cut_inside(coordinator, bytes, arrivals);
+        if let (Some(at), Some(t)) = (cut, self.doomed.take()) {
+            self.agenda.add(at, Event::Lose(coordinator));
+            self.agenda.add(at + 3 * HOUR, Event::Up(coordinator));
+            let another = (coordinator + 1) % COORDINATORS;
+            self.agenda.add(at + 5 * MINUTE, Event::Give(another, Task::Recover(t)));
+        }
+    }
+
+    /// Cuts the trunks to those that haven't got their letter yet, at a moment when others have. Answers when that is.
+    fn cut_inside(&mut self, coordinator: u32, message: Vec<u8>, mut arrivals: Vec<(Time, u32)>) -> Option<Time> {
         arrivals.sort_unstable();
         if arrivals.len() < 2 {
-            return;
+            return None;
         }
         let have = self.chance.between(1, arrivals.len() as u32 - 1) as usize;
         let at = arrivals[have - 1].0;
-        let trunks: Vec<Trunk> =
-            arrivals[have..].iter().filter(|(_, s)| *s != coordinator).map(|(_, s)| (coordinator, *s)).collect();
+        let stations = |arrived: &[(Time, u32)]| arrived.iter().map(|(_, s)| *s).collect::<Vec<u32>>();
+        let (reached, missed) = (stations(&arrivals[..have]), stations(&arrivals[have..]));
+        let trunks: Vec<Trunk> = missed.iter().filter(|s| **s != coordinator).map(|s| (coordinator, *s)).collect();
         self.cluster.tally.cuts += 1;
-        self.cut_for_a_while(at, trunks);
+        self.cut_for_a_while(at, trunks, Some(Inside { coordinator, message, reached, missed }));
+        Some(at)
     }
 
     /// A coordinator is given a number to recover only if nobody is at it already.
@@ -98,7 +121,8 @@ impl<E: Engine> Day<'_, '_, E> {
         while let Some(task) = self.desks[coordinator as usize].tasks.pop_front() {
             let slot = match task {
                 Task::Begin(t) => {
-                    let pieces = work::pieces(self.chance, &self.ground);
+                    let planned = self.planned.get(&t).copied();
+                    let pieces = planned.unwrap_or_else(|| work::pieces(self.chance, &self.ground));
                     self.cluster.begin(t, pieces)
                 }
                 Task::Recover(t) if self.cluster.transactions().contains_key(&t) => {

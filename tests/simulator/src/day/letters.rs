@@ -2,6 +2,7 @@
 
 use super::{Address, Day, Event, Letter};
 use crate::net::{Time, MINUTE};
+use crate::news::News;
 use engine::Engine;
 use model::{codec, Message};
 
@@ -59,6 +60,9 @@ impl<E: Engine> Day<'_, '_, E> {
             return;
         }
         let answer = self.cluster.take(server, &letter.bytes);
+        if let Ok(Message::Done { t, .. }) = message {
+            self.cluster.report(News::Learned { server, t });
+        }
         if let Ok(Message::Commit { .. } | Message::Done { .. }) = message {
             self.cluster.run(server, self.now % 2 == 0);
             self.look_soon(server);

@@ -3,14 +3,19 @@
 mod desks;
 mod letters;
 mod looks;
+mod shown;
 
 use crate::cluster::Cluster;
 use crate::net::{Agenda, Time, Trunk, Trunks, HOUR, MINUTE, SECOND};
+use crate::news::{Inside, News};
 use crate::work::{self, Ground};
 use chance::Chance;
 use engine::Engine;
 use model::cluster::{origin, COORDINATORS, SERVERS, SHARDS};
-use std::collections::VecDeque;
+use model::Pieces;
+use std::collections::{BTreeMap, VecDeque};
+
+pub use shown::{pass_shown, HOURS, KINDS};
 
 /// Who sends or gets a letter. A coordinator sits at the station of its number, a drive is one of its own.
 #[derive(Clone, Copy)]
@@ -43,9 +48,12 @@ enum Event {
     Tick(u32, u32),
     /// A station looks at what its server wants.
     Look(u32),
-    Cut(Vec<Trunk>),
+    Cut(Vec<Trunk>, Option<Inside>),
     Mend(Vec<Trunk>),
+    /// A station is down, and perhaps its drive is gone.
     Down(u32),
+    /// A station is without power, and its drive is gone.
+    Lose(u32),
     Up(u32),
 }
 
@@ -84,6 +92,10 @@ struct Day<'c, 'e, E: Engine> {
     chance: &'c mut Chance,
     weather: Weather,
     ground: Ground,
+    /// The pieces of numbers that are not left to chance.
+    planned: BTreeMap<u32, Pieces>,
+    /// A number whose Commit is cut half-way, and whose coordinator is without power from then on.
+    doomed: Option<u32>,
     agenda: Agenda<Event>,
     trunks: Trunks,
     desks: Vec<Desk>,
@@ -104,24 +116,29 @@ pub fn pass<E: Engine>(cluster: &mut Cluster<E>, chance: &mut Chance) {
     let many_shards = chance.between(1, SHARDS);
     let shards = (0..SHARDS).filter(|shard| *shard < many_shards).collect();
     let ground = Ground { shards, keys: chance.between(1, 4), most_pieces: chance.between(1, 8), reads: 20 };
-    let mut day = Day {
-        cluster,
-        chance,
-        weather,
-        ground,
-        agenda: Agenda::empty(),
-        trunks: Trunks::default(),
-        desks: (0..COORDINATORS).map(|_| Desk::default()).collect(),
-        looks: vec![0; SERVERS as usize],
-        looking: vec![false; SERVERS as usize],
-        now: 0,
-    };
+    let mut day = Day::new(cluster, chance, weather, ground);
     day.plan();
-    day.go();
-    day.cluster.story.clock = None;
+    day.go(&mut |_, _| {});
 }
 
-impl<E: Engine> Day<'_, '_, E> {
+impl<'c, 'e, E: Engine> Day<'c, 'e, E> {
+    fn new(cluster: &'c mut Cluster<'e, E>, chance: &'c mut Chance, weather: Weather, ground: Ground) -> Self {
+        Day {
+            cluster,
+            chance,
+            weather,
+            ground,
+            planned: BTreeMap::new(),
+            doomed: None,
+            agenda: Agenda::empty(),
+            trunks: Trunks::default(),
+            desks: (0..COORDINATORS).map(|_| Desk::default()).collect(),
+            looks: vec![0; SERVERS as usize],
+            looking: vec![false; SERVERS as usize],
+            now: 0,
+        }
+    }
+
     /// Bursts of numbers, recoveries by others, stations down and trunks cut for a while.
     fn plan(&mut self) {
         let end = Time::from(self.weather.hours) * HOUR;
@@ -148,7 +165,7 @@ impl<E: Engine> Day<'_, '_, E> {
             let apart = |a: u32, b: u32| (half >> a ^ half >> b) & 1 == 1;
             let trunks =
                 (0..SERVERS).flat_map(|a| (a + 1..SERVERS).map(move |b| (a, b))).filter(|(a, b)| apart(*a, *b));
-            self.cut_for_a_while(from, trunks.collect());
+            self.cut_for_a_while(from, trunks.collect(), None);
         }
     }
 
@@ -157,22 +174,25 @@ impl<E: Engine> Day<'_, '_, E> {
         self.chance.word() % end
     }
 
-    fn cut_for_a_while(&mut self, from: Time, trunks: Vec<Trunk>) {
+    fn cut_for_a_while(&mut self, from: Time, trunks: Vec<Trunk>, inside: Option<Inside>) {
         let length = if self.chance.percent(50) { self.moment(MINUTE) } else { self.moment(2 * HOUR) };
-        self.agenda.add(from, Event::Cut(trunks.clone()));
+        self.agenda.add(from, Event::Cut(trunks.clone(), inside));
         self.agenda.add(from + 1 + length, Event::Mend(trunks));
     }
 
-    fn go(&mut self) {
+    /// Lets everything happen in its time, before the eyes of a watcher.
+    fn go(&mut self, watch: &mut dyn FnMut(Time, &mut Cluster<E>)) {
         let end = Time::from(self.weather.hours) * HOUR;
         while let Some((time, event)) = self.agenda.next() {
             if time > end || self.cluster.fault.is_some() {
-                return;
+                break;
             }
             self.now = time;
             self.cluster.story.clock = Some(time);
             self.happen(event);
+            watch(time, self.cluster);
         }
+        self.cluster.story.clock = None;
     }
 
     fn happen(&mut self, event: Event) {
@@ -182,40 +202,59 @@ impl<E: Engine> Day<'_, '_, E> {
             Event::Tick(coordinator, look) if look == self.desks[coordinator as usize].look => self.tick(coordinator),
             Event::Tick(..) => {}
             Event::Look(station) => self.look(station),
-            Event::Cut(trunks) => {
-                self.cluster.story.tell(|| format!("trunks are cut: {}", trunk_list(&trunks)));
+            Event::Cut(trunks, inside) => {
+                let inside = inside.map(|inside| self.really_reached(inside));
                 self.trunks.cut(&trunks);
+                self.cluster.report(News::Cut { trunks, inside });
             }
             Event::Mend(trunks) => {
-                self.cluster.story.tell(|| format!("trunks are mended: {}", trunk_list(&trunks)));
                 self.trunks.mend(&trunks);
+                self.cluster.report(News::Mended(trunks));
             }
-            Event::Down(station) => self.go_down(station),
+            Event::Down(station) => {
+                self.go_down(station);
+                if self.has_drive(station) && self.chance.percent(50) {
+                    self.lose_drive(station);
+                }
+            }
+            Event::Lose(station) => {
+                self.go_down(station);
+                self.lose_drive(station);
+            }
             Event::Up(station) => self.come_up(station),
         }
     }
 
+    /// A letter has not reached a station that is down or behind another cut.
+    fn really_reached(&self, inside: Inside) -> Inside {
+        let Inside { coordinator, message, reached, mut missed } = inside;
+        let (reached, lost) = reached.into_iter().partition(|station| self.trunks.open(coordinator, *station));
+        missed.extend::<Vec<u32>>(lost);
+        Inside { coordinator, message, reached, missed }
+    }
+
     fn go_down(&mut self, station: u32) {
-        self.cluster.story.tell(|| format!("station {station} is down"));
+        self.cluster.report(News::Down(station));
         self.cluster.tally.downs += 1;
         self.trunks.set_down(station, true);
-        let slot = self.desks.get(station as usize).and_then(|desk| desk.slot);
-        if let Some(slot) = slot.filter(|_| self.chance.percent(50)) {
+    }
+
+    fn has_drive(&self, station: u32) -> bool {
+        self.desks.get(station as usize).map_or(false, |desk| desk.slot.is_some())
+    }
+
+    fn lose_drive(&mut self, station: u32) {
+        if let Some(slot) = self.desks.get_mut(station as usize).and_then(|desk| desk.slot.take()) {
             self.cluster.vanish(slot);
-            self.desks[station as usize].slot = None;
         }
     }
 
     fn come_up(&mut self, station: u32) {
-        self.cluster.story.tell(|| format!("station {station} is up"));
+        self.cluster.report(News::Up(station));
         self.trunks.set_down(station, false);
         self.agenda.add(self.now, Event::Look(station));
         if station < COORDINATORS {
             self.tick(station);
         }
     }
-}
-
-fn trunk_list(trunks: &[Trunk]) -> String {
-    trunks.iter().map(|(a, b)| format!("{a}-{b}")).collect::<Vec<_>>().join(" ")
 }

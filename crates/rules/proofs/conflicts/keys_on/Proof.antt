@@ -1,24 +1,27 @@
--- `rules::conflicts::keys_on` meets its contract: the words hold the keys of the pieces passed. Assumes nothing.
+-- `rules::conflicts::keys_on` meets its contract: the words hold the keys of the pieces passed, and behind those in use there are none. Assumes nothing.
 use Prim.Native.Nat.{_-_, _≤_}
 use mathlib.Core.Path.{_≡_}
 use native.Mathlib.Omega.{arith}
-use Rattle.rules.specs.Pieces.{onShard}
-use Rattle.rules.proofs.OnePass.{keysPassed, writtenPassed, keys-none, written-none, keys-step, written-step, keys-all}
+use Rattle.rules.specs.Pieces.{used}
+use Rattle.rules.proofs.OnePass.{used-le, used-counted, on-counted, keysPassed, writtenPassed, keys-none, written-none, keys-step, written-step, keys-used}
 use borrow.Author.Needs.{needs}
 use Rattle.rules.proofs.conflicts.keys_on.Statement.{statement}
 use Rattle.rules.proofs.conflicts.keys_on.Tie as tie
 
 abbrev Inv-loop : tie.InvT-loop
-Inv-loop k ps n all₀ written₀ i₀ all written i = (i ≤ 8) × (all ≡ keysPassed ps k i) × (written ≡ writtenPassed ps k i)
+Inv-loop k ps n all₀ written₀ i₀ all written i = (i ≤ n) × (n ≤ 8) × (n ≤ ps .count) × (n ≡ used (ps .count)) × (all ≡ keysPassed ps k i) × (written ≡ writtenPassed ps k i)
 
 abbrev μ-loop : tie.MeasureT-loop
-μ-loop k ps n all₀ written₀ i₀ all written i = 8 - i
+μ-loop k ps n all₀ written₀ i₀ all written i = n - i
 
-cast-n : tie.Need-cast-n Inv-loop μ-loop
-cast-n c = search needs
+used-requires : tie.Need-used-requires Inv-loop μ-loop
+used-requires c κs = search needs
 
 loop-holds : tie.Need-loop-holds Inv-loop μ-loop
-loop-holds c = (search needs, keys-none _ _, written-none _ _)
+loop-holds c =
+    let n = c .before .args .t1 .count in
+    let e = c .used .ensures in
+    (omega arith, rw e (used-le n), rw e (used-counted n), e, keys-none _ _, written-none _ _)
 
 mul-p : tie.Need-mul-p Inv-loop μ-loop
 mul-p c = search needs
@@ -39,13 +42,17 @@ loop-less : tie.Need-loop-less Inv-loop μ-loop
 loop-less c = search needs
 
 loop-again : tie.Need-loop-again Inv-loop μ-loop
-unfolding onShard
 loop-again c =
     let turn = c .before .before .before .before .before .before .loop in
-    (search needs, rw (keys-step, ← turn .inv .1) (c .before .before .put-below .ensures), rw (written-step, ← turn .inv .2) (c .put-below2 .ensures))
+    let start = c .before .before .before .before .before .before .before .before .args in
+    let on = on-counted (start .t1) (start .k) (turn .i) (omega arith) in
+    (search needs, search needs, search needs, search needs, rw (keys-step, on, ← turn .inv .4) (c .before .before .put-below .ensures), rw (written-step, on, ← turn .inv .5) (c .put-below2 .ensures))
 
 returns : tie.Need-returns Inv-loop μ-loop
-returns c = let e : c .before .loop .i ≡ 8 = omega arith in rw (c .before .loop .inv .1, c .before .loop .inv .2, e) (keys-all _ _)
+returns c =
+    let last = c .before .loop in
+    let e : last .i ≡ c .before .before .used .result = omega arith in
+    rw (last .inv .4, last .inv .5, e, last .inv .3) (keys-used _ _)
 
 pub keys-on-spec : {M : Type 1} → statement M
 keys-on-spec =
@@ -53,7 +60,7 @@ keys-on-spec =
     (tie.spec
     Inv-loop
     μ-loop
-    cast-n
+    used-requires
     loop-holds
     mul-p
     element-copy-out-p

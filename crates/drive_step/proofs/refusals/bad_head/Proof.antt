@@ -1,0 +1,35 @@
+-- `drive_step::refusals::bad_head` meets its contract: the callees say its tests. Assumes nothing.
+use Rattle.drive_step.specs.Refusals.{badHead}
+use borrow.Author.Needs.{needs}
+use Rattle.drive_step.proofs.refusals.bad_head.Statement.{statement}
+use Rattle.drive_step.proofs.refusals.bad_head.Tie as tie
+
+bad-number-requires : tie.Need-bad-number-requires
+bad-number-requires c κs = search needs
+
+bad-server-requires : tie.Need-bad-server-requires
+bad-server-requires c κs = search needs
+
+bad-ballot-requires : tie.Need-bad-ballot-requires
+bad-ballot-requires c κs = search needs
+
+bad-ballot-requires-2 : tie.Need-bad-ballot-requires-2
+bad-ballot-requires-2 c κs = search needs
+
+bad-ballot-requires-3 : tie.Need-bad-ballot-requires-3
+bad-ballot-requires-3 c κs = search needs
+
+returns : tie.Need-returns
+unfolding badHead
+returns c = rw (c .bad-ballot3 .ensures, c .before .before .before .bad-ballot2 .ensures, c .before .before .before .before .before .bad-ballot .ensures, c .before .before .before .before .before .before .bad-server .ensures, c .before .before .before .before .before .before .before .bad-number .ensures)
+
+pub bad-head-spec : {M : Type 1} → statement M
+bad-head-spec =
+    tie.close
+    (tie.spec
+    bad-number-requires
+    bad-server-requires
+    bad-ballot-requires
+    bad-ballot-requires-2
+    bad-ballot-requires-3
+    returns)
