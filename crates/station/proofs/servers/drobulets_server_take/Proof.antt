@@ -236,7 +236,7 @@ module _ {M : Type 1} (𝓤 : URA M) (H : Heap 𝓤) (A : Atoms 𝓤) (W : Given
         assigns ! (addr ! (from ! (hop ! (look ! 32 refl) (fld ! {τ = tyArray E′.mir 64} {d = 8} (lies .0) (stop !))))) (from ! (stop !)) (init ! 10 refl (tt, tt)) $
         assigns ! (bin ! (load ! (from ! (stop !)) (look ! 10 refl)) (load ! (from ! (stop !)) (look ! 12 refl)) tt) (from ! (stop !)) (init ! 8 refl (tt, tt)) $
         assigns ! (of-opd ! (load ! (from ! (stop !)) (look ! 20 refl))) (from ! (hop ! (look ! 8 refl) (stop !)))
-          (store-elem ! 4 E.the-field E′.the-field-laws 64 (s .records) i r₄ (LL.owed T.the-type T′.the-laws s (vals s) was .1 .0) (below i (e₃ ∙ ap (λ (m : Taken). m .place) (e₁ .0))) is₄ (sub ! 1 {τ = rawArray E′.mir 64} {d = 8} (lies .1) (whole !)) (LL.lawful E.the-type E′.the-laws 𝓤 H A W .typed r₄ _ is₄ .0)) $
+        (store-elem ! 4 E.the-field E′.the-field-laws 64 (s .records) i r₄ (LL.owed T.the-type T′.the-laws s (vals s) was .1 .0) (below i (e₃ ∙ ap (λ (m : Taken). m .place) (e₁ .0))) is₄ (sub ! 1 {τ = rawArray E′.mir 64} {d = 8} (lies .1) (whole !)) (LL.lawful E.the-type E′.the-laws 𝓤 H A W .typed r₄ _ is₄ .0)) $
         drop ! $ owned ! T.the-row (Is T.the-row) (LL.makes T.the-type T′.the-plain 𝓤 H A) (storing i r₄) _ (made i r₄ v₄ was is₄) $
         assigns ! (of-opd ! (load ! (from ! (stop !)) (look ! 24 refl))) (from ! (stop !)) (init ! 34 refl (LL.lawful P.the-type P′.the-laws 𝓤 H A W .typed k _ is₂ .0)) $
         move ! (4 ∷ 0 ∷ 5 ∷ 6 ∷ 7 ∷ []) $ closes ! tt T.the-row (storing i r₄) (vals (storing i r₄)) b o $
