@@ -95,7 +95,7 @@ static int learn(uint32_t s, uint32_t shard, uint32_t t)
 {
     uint8_t question[DROBULETS_LONGEST], answer[DROBULETS_LONGEST], reply[DROBULETS_LONGEST];
     drobulets_message inquire = {.code = DROBULETS_INQUIRE, .t = t};
-    uint32_t length = drobulets_encode(inquire, question, sizeof question).length;
+    uint32_t length = drobulets_encode(&inquire, question, sizeof question).length;
     for (uint32_t other = DROBULETS_REPLICAS * shard; other < DROBULETS_REPLICAS * (shard + 1); other++) {
         uint32_t answered = other == s ? 0 : ask(other, question, length, answer);
         if (answered != 0 && says(answer, answered, DROBULETS_DONE))
@@ -198,7 +198,7 @@ int main(void)
     for (uint32_t s = 0; s < STATIONS; s++) {
         drobulets_message fetch = {.code = DROBULETS_FETCH, .t = 1};
         uint8_t question[DROBULETS_LONGEST], answer[DROBULETS_LONGEST];
-        uint32_t length = drobulets_encode(fetch, question, sizeof question).length;
+        uint32_t length = drobulets_encode(&fetch, question, sizeof question).length;
         uint32_t answered = ask(s, question, length, answer); /* S8 */
         DEMAND(answered != 0 && says(answer, answered, DROBULETS_RESULTS));
         show(s);

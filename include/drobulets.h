@@ -294,7 +294,7 @@ uint32_t drobulets_drive_take(drobulets_drive *drive, const uint8_t *input, size
 /* Writes the message due to the front of the output; it is due to every server of T's shards. Refuses 13, 12, 14. */
 drobulets_due drobulets_drive_due(const drobulets_drive *drive, uint8_t *output, size_t output_length);
 
-/* ---- by value */
+/* ---- messages and ballots */
 
 /* The smallest ballot above n that coordinator c recovers with. Refuses 1, 9. */
 drobulets_ballot drobulets_next_ballot(uint32_t c, uint32_t n);
@@ -303,7 +303,7 @@ drobulets_ballot drobulets_next_ballot(uint32_t c, uint32_t n);
 drobulets_decoded drobulets_decode(const uint8_t *input, size_t input_length);
 
 /* Writes the message's bytes to the front of the output; no byte behind them is touched. Refuses 12, 14. */
-drobulets_answer drobulets_encode(drobulets_message message, uint8_t *output, size_t output_length);
+drobulets_answer drobulets_encode(const drobulets_message *message, uint8_t *output, size_t output_length);
 
 /* ---- the layout that the library was built with; tests/station holds it against the archive */
 

@@ -40,7 +40,7 @@ fn encoding(meter: &Meter, longest: c_int, plain: &Message, bytes: &[u8], name: 
     assert_eq!(unsafe { tirpc_decode(longest, bytes.as_ptr(), many) }, many);
     let before = [0xA5u8; LONGEST];
     let (ours, a) = meter.of(&format!("{name} library"), TIMES, &before, |to| {
-        assert_eq!(raw::encode(*black_box(&flat), to), Answer { refusal: 0, length: many });
+        assert_eq!(raw::encode(black_box(&flat), to), Answer { refusal: 0, length: many });
     });
     let (rust, b) = meter.of(&format!("{name} Rust"), TIMES, &before, |to| {
         assert_eq!(codec::encode(black_box(plain), &mut to[..]), Ok(many as usize));
@@ -65,7 +65,7 @@ fn decoding(meter: &Meter, longest: c_int, plain: &Message, bytes: &[u8], name: 
         assert_eq!(unsafe { tirpc_decode(longest, black_box(from), many as u32) } as usize, many);
     });
     let mut again = [[0u8; LONGEST]; 2];
-    raw::encode(raw::decode(bytes).message, &mut again[0]);
+    raw::encode(&raw::decode(bytes).message, &mut again[0]);
     unsafe { tirpc_encode(longest, again[1].as_mut_ptr(), LONGEST as u32) };
     assert!(codec::decode(bytes) == Ok(*plain) && again.iter().all(|a| a.starts_with(bytes)));
     (name, [ours, rust, tirpc])

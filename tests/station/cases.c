@@ -100,15 +100,15 @@ static void refused_takes(void)
     uint8_t input[DROBULETS_LONGEST + 1], output[DROBULETS_LONGEST], blank[DROBULETS_LONGEST];
     memset(output, 0x5A, sizeof output);
     memset(blank, 0x5A, sizeof blank);
-    size_t length = drobulets_encode(pre_accept(8, 0, PUT_5), input, sizeof input).length;
+    size_t length = bytes_of(pre_accept(8, 0, PUT_5), input, sizeof input);
     input[length] = 0;
     drobulets_answer short_output = drobulets_server_take(server, input, length, output, 23);
     CHECK(short_output.refusal == DROBULETS_OUTPUT_SHORT && short_output.length == 0);
     CHECK(drobulets_server_take(server, input, length - 1, output, sizeof output).refusal == DROBULETS_BYTES_SHORT);
     CHECK(drobulets_server_take(server, input, length + 1, output, sizeof output).refusal == DROBULETS_BYTES_LEFT);
-    size_t reply = drobulets_encode(message_of(DROBULETS_COMMIT_OK, 8, 0), input, sizeof input).length;
+    size_t reply = bytes_of(message_of(DROBULETS_COMMIT_OK, 8, 0), input, sizeof input);
     CHECK(drobulets_server_take(server, input, reply, output, sizeof output).refusal == DROBULETS_NOT_TAKEN);
-    size_t far = drobulets_encode(message_of(DROBULETS_INQUIRE, 64, 0), input, sizeof input).length;
+    size_t far = bytes_of(message_of(DROBULETS_INQUIRE, 64, 0), input, sizeof input);
     CHECK(drobulets_server_take(server, input, far, output, sizeof output).refusal == DROBULETS_BAD_NUMBER);
     CHECK(same_server(server, before));
     server->id = before->id = 12;

@@ -53,13 +53,20 @@ static inline drobulets_message message_of(uint32_t code, uint32_t t, uint32_t b
     return message;
 }
 
+/* Writes a message, and answers how many bytes it takes. */
+static inline size_t bytes_of(drobulets_message message, uint8_t *output, size_t room)
+{
+    drobulets_answer written = drobulets_encode(&message, output, room);
+    CHECK(written.refusal == 0);
+    return written.length;
+}
+
 /* The reply of a server to a message, by the bytes of both. */
 static inline drobulets_message asked(drobulets_server *server, drobulets_message message)
 {
     uint8_t input[DROBULETS_LONGEST], output[DROBULETS_LONGEST];
-    drobulets_answer written = drobulets_encode(message, input, sizeof input);
-    CHECK(written.refusal == 0);
-    drobulets_answer answer = drobulets_server_take(server, input, written.length, output, sizeof output);
+    size_t length = bytes_of(message, input, sizeof input);
+    drobulets_answer answer = drobulets_server_take(server, input, length, output, sizeof output);
     CHECK(answer.refusal == 0);
     drobulets_decoded reply = drobulets_decode(output, answer.length);
     CHECK(reply.refusal == 0);
@@ -70,9 +77,8 @@ static inline drobulets_message asked(drobulets_server *server, drobulets_messag
 static inline uint32_t told(drobulets_drive *drive, drobulets_message reply)
 {
     uint8_t input[DROBULETS_LONGEST];
-    drobulets_answer written = drobulets_encode(reply, input, sizeof input);
-    CHECK(written.refusal == 0);
-    return drobulets_drive_take(drive, input, written.length);
+    size_t length = bytes_of(reply, input, sizeof input);
+    return drobulets_drive_take(drive, input, length);
 }
 
 /* Values are compared field by field: what stands between the fields is no part of them. */

@@ -121,7 +121,7 @@ static void accept_bytes(void)
 {
     uint8_t bytes[DROBULETS_LONGEST];
     drobulets_message accept = about_63(DROBULETS_ACCEPT, 65535);
-    CHECK(drobulets_encode(accept, bytes, sizeof bytes).length == DROBULETS_LONGEST);
+    CHECK(drobulets_encode(&accept, bytes, sizeof bytes).length == DROBULETS_LONGEST);
     CHECK(word_at(bytes, 0) == DROBULETS_ACCEPT && word_at(bytes, 4) == 63 && word_at(bytes, 8) == 65535 && word_at(bytes, 12) == 8);
     for (uint32_t i = 0; i < 8; i++) {
         drobulets_piece piece = accept.pieces.list[i];
@@ -133,12 +133,12 @@ static void accept_bytes(void)
     CHECK(hyper_at(bytes, 160) == 0 && hyper_at(bytes, 168) == EARLIER.w3);
 }
 
-/* Messages go by value in both directions. */
+/* Messages are lent to be written, and come by value. */
 static void message_fields(void)
 {
     uint8_t bytes[DROBULETS_LONGEST];
     drobulets_message accept = about_63(DROBULETS_ACCEPT, 65535);
-    drobulets_answer written = drobulets_encode(accept, bytes, sizeof bytes);
+    drobulets_answer written = drobulets_encode(&accept, bytes, sizeof bytes);
     CHECK(written.refusal == 0 && written.length == DROBULETS_LONGEST);
     drobulets_decoded read = drobulets_decode(bytes, written.length);
     CHECK(read.refusal == 0 && same_message(read.message, accept));
@@ -148,7 +148,7 @@ static void message_fields(void)
     results.values.count = 8;
     for (int32_t i = 0; i < 8; i++)
         results.values.list[i] = (drobulets_value){-1 - i, (uint32_t)i % 2};
-    written = drobulets_encode(results, bytes, sizeof bytes);
+    written = drobulets_encode(&results, bytes, sizeof bytes);
     read = drobulets_decode(bytes, written.length);
     CHECK(written.length == 80 && same_message(read.message, results));
 
@@ -156,16 +156,16 @@ static void message_fields(void)
     prepared.server = 10;
     prepared.arrival = (drobulets_maybe_word){1, UINT64_MAX};
     prepared.accepted = (drobulets_maybe_vote){1, 65534, EARLIER};
-    written = drobulets_encode(prepared, bytes, sizeof bytes);
+    written = drobulets_encode(&prepared, bytes, sizeof bytes);
     read = drobulets_decode(bytes, written.length);
     CHECK(written.length == 68 && same_message(read.message, prepared));
 
     drobulets_message arrived = message_of(DROBULETS_PRE_ACCEPT_OK, 62, 0), behind = message_of(DROBULETS_BEHIND, 62, 0);
     arrived.word = 0x8000000000000001u;
     behind.promise = 65533;
-    written = drobulets_encode(arrived, bytes, sizeof bytes);
+    written = drobulets_encode(&arrived, bytes, sizeof bytes);
     CHECK(same_message(drobulets_decode(bytes, written.length).message, arrived));
-    written = drobulets_encode(behind, bytes, sizeof bytes);
+    written = drobulets_encode(&behind, bytes, sizeof bytes);
     CHECK(same_message(drobulets_decode(bytes, written.length).message, behind));
     CHECK(drobulets_decode(bytes, 3).refusal == DROBULETS_BYTES_SHORT);
 }

@@ -29,7 +29,7 @@ static void reply(void) { drobulets_drive_take(drive, input, length); }
 static void due(void) { drobulets_drive_due(drive, output, sizeof output); }
 static void next_ballot(void) { drobulets_next_ballot(0, 8); }
 static void decode(void) { drobulets_decode(input, length); }
-static void encode(void) { drobulets_encode(message, output, sizeof output); }
+static void encode(void) { drobulets_encode(&message, output, sizeof output); }
 
 static void *on_its_stack(void *call)
 {
@@ -73,7 +73,7 @@ int main(void)
     drive = lent(sizeof *drive);
     message = message_of(DROBULETS_COMMIT, 8, 0);
     message.pieces = pieces;
-    length = drobulets_encode(message, input, sizeof input).length;
+    length = bytes_of(message, input, sizeof input);
     printf("stack of each call, in bytes:\n");
     measure("fresh", fresh);
     measure("take", take);
@@ -91,7 +91,7 @@ int main(void)
     measure("due", due);
     measure("move_on", move_on);
     message = message_of(DROBULETS_PRE_ACCEPT_OK, 8, 0);
-    length = drobulets_encode(message, input, sizeof input).length;
+    length = bytes_of(message, input, sizeof input);
     measure("reply", reply);
     CHECK(drive->answers[0].counted == 1);
     measure("next_ballot", next_ballot);

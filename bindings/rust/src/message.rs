@@ -85,7 +85,7 @@ impl Message {
 
     /// Writes its bytes to the front of the output, and no others. Gives their number. Refuses 12, 14.
     pub fn encode_into(&self, output: &mut [u8]) -> Result<usize, Refusal> {
-        let answer = raw::encode(self.into(), output);
+        let answer = raw::encode(&self.into(), output);
         Refusal::or(answer.refusal, answer.length as usize)
     }
 

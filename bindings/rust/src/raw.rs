@@ -36,7 +36,7 @@ extern "C" {
 
     fn drobulets_next_ballot(c: u32, n: u32) -> Ballot;
     fn drobulets_decode(input: *const u8, input_length: usize) -> Decoded;
-    fn drobulets_encode(message: Message, output: *mut u8, output_length: usize) -> Answer;
+    fn drobulets_encode(message: &Message, output: *mut u8, output_length: usize) -> Answer;
 }
 
 /// Puts a fresh server into the lent place, whatever stands there. Refuses 1.
@@ -154,7 +154,7 @@ pub fn decode(input: &[u8]) -> Decoded {
 
 /// Writes the message's bytes to the front of the output. Refuses 12, 14.
 #[inline]
-pub fn encode(message: Message, output: &mut [u8]) -> Answer {
-    // SAFETY: the output is lent for the call, and the length is its own; the message goes by value.
+pub fn encode(message: &Message, output: &mut [u8]) -> Answer {
+    // SAFETY: the message and the output are lent for the call, and the length is the output's own.
     unsafe { drobulets_encode(message, output.as_mut_ptr(), output.len()) }
 }

@@ -1,12 +1,11 @@
 -- What is sent of each kind of message is what the definition of encoding says. Assumes nothing.
 use mathlib.Core.Path.{_≡_, refl, sym, ap, _∙_}
-use mathlib.Core.Bool.{Bool, true, false, not, cond, _&&_, _||_, or-false, true≢false, false≢true}
-use mathlib.Core.Logic.{⊎-elim}
+use mathlib.Core.Bool.{Bool, true, false, not, cond, _&&_, _||_, or-false}
 use mathlib.Core.List.{List, append-assoc, append-nil}
 use Prim.Native.Nat.{ℕ, _+_, _*_, _≤_, _<_}
 use native.Mathlib.Omega.{arith}
 use lib.Dec.{ltb, eqb}
-use lib.ListN.{length, drop, length-append}
+use lib.ListN.{length, take, drop, length-append}
 use lib.Seq.{take-at}
 use borrow.Author.Tests.{lt-ltb, le-ltb}
 use Rattle.xdr.specs.Word.{be-length}
@@ -29,11 +28,9 @@ use Rattle.wire.specs.Codes.{shapeOf, unknown}
 use Rattle.wire.specs.Parts.{piece, pieces, set4, prepared, values, maybeWord, maybeVote}
 use Rattle.wire.specs.Bytes.{body, bodyOf, code, bytes, unwritable, encodeRefusal}
 use Rattle.wire.specs.Encoding.{Encoding, refused, written, encode}
+use Rattle.wire.proofs.Longest.{cost-le}
 use Rattle.wire.proofs.Lengths.{piece-length, set-length, values-length, maybe-word-length, maybe-vote-length}
-use Rattle.wire.specs.Holding.{Sized}
-use Rattle.wire.proofs.Longest.{writable-is, longest}
-use Rattle.masks.proofs.Bools.{true-or-false}
-use Rattle.codec.specs.Answers.{answer, sent, delivered}
+use Rattle.codec.specs.Answers.{sent}
 use Rattle.codec.specs.Sections.{front, frontLength, cat}
 use Rattle.codec.specs.ByKind.{bare, asked, answered, bareShape, askedShape, answeredShape, kindShape, bareSections, askedSections, answeredSections}
 use Rattle.codec.proofs.ByKind.{kind-shape}
@@ -82,11 +79,19 @@ answered-length h k t s b p w a v r e m =
     let z = when-length noValues values (h .values) r (λ g. values-length r (omega (arith, m g))) in
     simp length-append (omega (arith, be-length 4 k, front-length h t s b p))
 
+-- no server and no promise: eight bytes before the count
+pub asked-small : (k : ℕ) (h : Shape) → h ≡ askedShape k → frontLength h ≤ 8
+asked-small k h e = rw e (omega (arith, cost-le (askedShape k .ballot) 4))
+
 pub few-values : (b : Bool) (n : ℕ) → (b ≡ true → n ≤ 8) → cost b (4 + n * 8) ≤ 68
 few-values true n h = omega (arith, h refl)
 few-values false n h = omega arith
 
 -- ---- what is sent
+
+built-first : (s : List ℕ) {n : ℕ} {z₀ : List ℕ} {r : ℕ} {b : List ℕ} → length s ≡ n → Put 0 s z₀ r b → take n b ≡ s
+unfolding over
+built-first s {n} {z₀} l p = ap (take n) (p .bytes) ∙ take-at s (drop (length s) z₀) n l
 
 module _ (s z : List ℕ) {u : Bool} where
   pub sent-12 : u ≡ true → refused 12 z ≡ sent u s z
@@ -98,9 +103,12 @@ module _ (s z : List ℕ) {u : Bool} where
     unfolding sent
     sent-14 h = rw (e, l, lt-ltb (length z) n h)
 
-    pub sent-all : n ≤ length z → {r : ℕ} {z′ : List ℕ} → Put 0 s z r z′ → _≡_ {A = Encoding} (record { refusal = 0; size = n; buffer = z′ }) (sent u s z)
+    -- built in another buffer, and then copied
+    pub sent-all : n ≤ length z → {z₀ : List ℕ} {r : ℕ} {b z′ : List ℕ} → Put 0 s z₀ r b → z′ ≡ over (take n b) z → _≡_ {A = Encoding} (record { refusal = 0; size = n; buffer = z′ }) (sent u s z)
     unfolding sent
-    sent-all h p = rw (e, l, le-ltb (length z) n h, p .bytes)
+    sent-all h p q =
+        let all = q ∙ ap (λ (x : List ℕ). over x z) (built-first s l p) in
+        rw (e, l, le-ltb (length z) n h, all)
 
 -- ---- and the definition
 
@@ -149,41 +157,3 @@ module _ (m : Message) (z : List ℕ) where
   encode-12 f g h =
       let e : shapeOf k ≡ unknown = sym (kind-shape k) ∙ rw (f, g, h) in
       sent-12 (bytes .put m) z (ap (λ (g : Shape). unwritableAs g m) e) ∙ encode-sent
-
--- ---- built in a buffer that every message fits into, and delivered from there
-
--- 14, or the bytes
-choice : (s z : List ℕ) (b : Bool) → cond b (refused 14 z) (written s z) ≡ cond (eqb (cond b 14 0) 0) (written s z) (refused (cond b 14 0) z)
-choice s z true = refl
-choice s z false = refl
-
-module _ (m : Message) (s : Sized m) (z₀ : List ℕ) (l : length z₀ ≡ 176) where
-  unwritable-any : unwritable m ≡ true → (z : List ℕ) → encode m z ≡ refused 12 z
-  unfolding encode encodeRefusal
-  unwritable-any e z = rw e
-
-  built-all : unwritable m ≡ false → encode m z₀ ≡ written (bytes .put m) z₀
-  unfolding encode encodeRefusal
-  built-all e = rw (e, le-ltb (length z₀) (length (bytes .put m)) (omega (arith, l, longest m s (writable-is m e))))
-
-  delivered-all : unwritable m ≡ false → (z : List ℕ) → delivered (over (bytes .put m) z₀) (length (bytes .put m)) z ≡ encode m z
-  unfolding delivered encode encodeRefusal over
-  delivered-all e z = rw (e, take-at (bytes .put m) (drop (length (bytes .put m)) z₀) (length (bytes .put m)) refl) (choice (bytes .put m) z (ltb (length z) (length (bytes .put m))))
-
-  -- what cannot be built is refused whatever the output is
-  pub built-12 : there (encode m z₀ .refusal) ≡ true → (z : List ℕ) → (answer (encode m z₀) ≡ answer (encode m z)) × (z ≡ encode m z .buffer)
-  built-12 h z =
-      ⊎-elim
-      (λ e. (ap answer (unwritable-any e z₀) ∙ sym (ap answer (unwritable-any e z)), sym (ap (λ (x : Encoding). x .buffer) (unwritable-any e z))))
-      (λ e. absurd (false≢true (ap (λ (x : Encoding). there (x .refusal)) (sym (built-all e)) ∙ h)))
-      (true-or-false (unwritable m))
-
-  module _ (h : there (encode m z₀ .refusal) ≡ false) where
-    writable : unwritable m ≡ false
-    writable = ⊎-elim (λ e. absurd (true≢false (ap (λ (x : Encoding). there (x .refusal)) (sym (unwritable-any e z₀)) ∙ h))) (λ e. e) (true-or-false (unwritable m))
-
-    pub built-small : encode m z₀ .size ≤ 176
-    built-small = rw (built-all writable) (longest m s (writable-is m writable))
-
-    pub built-sent : (z : List ℕ) → delivered (encode m z₀ .buffer) (encode m z₀ .size) z ≡ encode m z
-    built-sent z = ap (λ (x : Encoding). delivered (x .buffer) (x .size) z) (built-all writable) ∙ delivered-all writable z

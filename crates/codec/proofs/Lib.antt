@@ -1,4 +1,5 @@
 pub mod ReadWhole
 pub mod ByKind
+pub mod ReadExact
 pub mod WriteWhole
 pub mod EncodeWhole

@@ -102,7 +102,7 @@ body-read h s c {f} {k} {x} {l} p q =
       next = q .next ∙ ap (λ (g : Got Front). rest h .get s (g .next) .next) e;
     }
 
-message-read : (s : List ℕ) (c : Cursor) {k : ℕ} {c₀ : Cursor} {f : Front} {c₁ : Cursor} {x : Rest} {l : Cursor} (h : Shape) → h ≡ shapeOf k
+pub message-read : (s : List ℕ) (c : Cursor) {k : ℕ} {c₀ : Cursor} {f : Front} {c₁ : Cursor} {x : Rest} {l : Cursor} (h : Shape) → h ≡ shapeOf k
     → Reads code s c k c₀ → Reads (front h) s c₀ f c₁ → Reads (rest h) s c₁ x l → Reads bytes s c (joined k f x) l
 unfolding bytes regroup
 message-read s c {k} {c₀} {f} {c₁} {x} {l} h e p q r =

@@ -2,8 +2,11 @@
 use mathlib.Core.Path.{_≡_, sym, ap, _∙_}
 use mathlib.Core.List.{List, [], _∷_, _++_, append-assoc, append-nil}
 use Prim.Native.Nat.{ℕ, zero, suc, _+_, _≤_, _<_}
+use native.Mathlib.Nat.{zero-add}
+use native.Mathlib.Numerals.{add-one}
 use native.Mathlib.Omega.{arith}
-use lib.ListN.{length, take, getD, length-append, length-take, length-drop}
+use lib.Seq.{length-take-le, paste-suc}
+use lib.ListN.{length, take, set, getD, replicate, length-append, length-take, length-drop}
 use Rattle.xdr.specs.Word.{be}
 use Rattle.xdr.specs.Form.{u32, when}
 use Rattle.xdr.specs.Over.{over, Put, put-none, put-put, room-right}
@@ -24,6 +27,10 @@ cat-first (s ∷ ss) (suc i) = omega (arith, length-append s (cat (take i ss)), 
 same-size : (a : ℕ) (ys z : List ℕ) {r : ℕ} {z′ : List ℕ} → a + length ys ≤ length z → Put a ys z r z′ → length z′ ≡ length z
 unfolding over
 same-size a ys z h p = ap length (p .bytes) ∙ simp (length-append, length-take, length-drop) (omega arith)
+
+-- where a message is built
+abbrev pub cleared : List ℕ
+cleared = replicate 176 0
 
 module _ (ss : List (List ℕ)) (at : ℕ) (z : List ℕ) (room : at + length (cat ss) ≤ length z) where
   -- the first i were written
@@ -50,3 +57,11 @@ frontSections h t s b p = be 4 t ∷ when 0 u32 (h .server) .put s ∷ when 0 u3
 pub front-is : (h : Shape) (t s b p : ℕ) → cat (frontSections h t s b p) ≡ front h .put (((t, s), b), p)
 unfolding front
 front-is h t s b p = simp (append-nil, append-assoc)
+
+-- ---- one more element is copied to the front
+
+pub copy-more : (s z : List ℕ) (i : ℕ) → i < length z → i < length s → set (over (take i s) z) i (getD s i 0) ≡ over (take (i + 1) s) z
+unfolding over
+copy-more s z i h k =
+    let e = paste-suc z 0 s i 0 (rw zero-add h) k in
+    rw (length-take-le i s (omega arith), length-take-le (i + 1) s (omega arith), add-one) (rw (zero-add, zero-add) at e)

@@ -3,7 +3,7 @@ use mathlib.Core.Bool.{Bool}
 use mathlib.Core.List.{List}
 use Prim.Native.Nat.{ℕ}
 use lib.Dec.{ltb}
-use lib.ListN.{length, take}
+use lib.ListN.{length}
 use Rattle.rules.specs.Choice.{_if_else_}
 use Rattle.wire.specs.Encoding.{Encoding, refused, written}
 use Rattle.codec.specs.declared.Encoded.{Encoded}
@@ -17,7 +17,3 @@ sent unwritable s z =
     refused 12 z if unwritable
     else refused 14 z if ltb (length z) (length s)
     else written s z
-
--- the first n bytes of s, at the front of the buffer z: 14 where it is shorter
-unfoldable pub delivered : List ℕ → ℕ → List ℕ → Encoding
-delivered s n z = refused 14 z if ltb (length z) n else written (take n s) z

@@ -1,3 +1,4 @@
 pub mod Sections
 pub mod ByKind
+pub mod Exact
 pub mod Answers

@@ -4,8 +4,9 @@ ghost use lib.Dec.{leb};
 ghost use Rattle.xdr.specs.Read.{judged};
 ghost use Rattle.xdr.specs.Reading.{Reads};
 ghost use Rattle.wire.specs.Messages.{blank};
-ghost use Rattle.wire.specs.Bytes.{code, ended, decodedAs};
+ghost use Rattle.wire.specs.Bytes.{code, ended, decodedAs, decode};
 ghost use Rattle.codec.specs.Sections.{front, rest, noRest, joined};
+use crate::shapes::has_rest;
 use messages::blank;
 use messages::codes::shape_of;
 use messages::plain;
@@ -22,7 +23,7 @@ use xdr::Cursor;
 use xdr::Got32;
 
 // The header is the code alone: 12 where no message has it, and the value is then 0.
-pub fn get_header(s: &[u8], c: Cursor) -> Got32
+fn get_header(s: &[u8], c: Cursor) -> Got32
     ensures { λ r. ⌜ Reads code (now (s .entry)) c (r .v) (r .next) ⌝ }
 {
     let a = xdr::get_u32(s, c);
@@ -37,7 +38,7 @@ pub fn get_header(s: &[u8], c: Cursor) -> Got32
     Got32 { v: 0, next }
 }
 
-pub struct GotFront {
+struct GotFront {
     pub t: u32,
     pub server: u32,
     pub ballot: u32,
@@ -45,7 +46,7 @@ pub struct GotFront {
     pub next: Cursor,
 }
 
-pub fn get_front(s: &[u8], c: Cursor, h: Shape) -> GotFront
+fn get_front(s: &[u8], c: Cursor, h: Shape) -> GotFront
     ensures { λ r. ⌜ Reads (front h) (now (s .entry)) c (((r .t, r .server), r .ballot), r .promise) (r .next) ⌝ }
 {
     let t = xdr::get_u32(s, c);
@@ -82,7 +83,7 @@ fn refused(refusal: u32) -> Decoded
 }
 
 // A message that ends with its front.
-pub fn short_message(n: usize, k: u32, f: GotFront) -> Decoded
+fn short_message(n: usize, k: u32, f: GotFront) -> Decoded
     ensures { λ r. ⌜ r ≡ decodedAs (joined k (((f .t, f .server), f .ballot), f .promise) noRest) (judged (leb n (f .next .at)) 11 (f .next)) ⌝ }
 {
     let next = f.next;
@@ -98,7 +99,7 @@ pub fn short_message(n: usize, k: u32, f: GotFront) -> Decoded
 }
 
 // A message that has some of the rest behind its front.
-pub fn long_message(s: &[u8], k: u32, f: GotFront, h: Shape) -> Decoded
+fn long_message(s: &[u8], k: u32, f: GotFront, h: Shape) -> Decoded
     ensures { λ r. ⌜ r ≡ decodedAs (joined k (((f .t, f .server), f .ballot), f .promise) (rest h .get (now (s .entry)) (f .next) .v)) (ended (now (s .entry)) (rest h .get (now (s .entry)) (f .next) .next)) ⌝ }
 {
     let c1 = f.next;
@@ -139,4 +140,19 @@ pub fn long_message(s: &[u8], k: u32, f: GotFront, h: Shape) -> Decoded
         refusal: 0,
         message,
     }
+}
+
+pub fn decode(bytes: &[u8]) -> Decoded
+    ensures { λ r. ⌜ r ≡ decode (now (bytes .entry)) ⌝ }
+{
+    let c = Cursor { at: 0, fault: 0 };
+    let k = get_header(bytes, c);
+    let code = k.v;
+    let next = k.next;
+    let h = shape_of(code);
+    let f = get_front(bytes, next, h);
+    if has_rest(h) {
+        return long_message(bytes, code, f, h);
+    }
+    short_message(bytes.len(), code, f)
 }

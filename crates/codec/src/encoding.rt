@@ -1,7 +1,7 @@
-// A message, written by its sections, each in the part after the last. What is refused is known before the first byte is written.
+// A message, built by its sections in a cleared buffer, each in the part after the last, and then copied to the output. What is refused is known before.
 ghost use mathlib.Core.Path.{_≡_};
 ghost use mathlib.Core.Bool.{false, _&&_};
-ghost use Prim.Native.Nat.{_+_, _*_, _<_, _≤_};
+ghost use Prim.Native.Nat.{_+_, _*_, _≤_};
 ghost use lib.Dec.{ltb};
 ghost use lib.ListN.{length, take};
 ghost use Rattle.xdr.specs.Over.{over, Put};
@@ -9,7 +9,7 @@ ghost use Rattle.xdr.proofs.Windows.{cost};
 ghost use Rattle.wire.specs.Bytes.{code};
 ghost use Rattle.codec.specs.Sections.{front, frontLength, cat};
 ghost use Rattle.codec.specs.ByKind.{askedShape, answeredShape, bareSections, askedSections, answeredSections};
-ghost use Rattle.codec.specs.Answers.{answer, sent, delivered};
+ghost use Rattle.codec.specs.Answers.{answer, sent};
 use crate::Encoded;
 use crate::shapes::answered_shape;
 use crate::shapes::asked_shape;
@@ -65,7 +65,7 @@ fn put_front(
 }
 
 // n bytes, or none.
-fn cost(has: bool, n: usize) -> usize
+pub fn cost(has: bool, n: usize) -> usize
     ensures { λ r. ⌜ (r ≡ cost has n) × (r ≤ n) ⌝ }
 {
     if has {
@@ -74,7 +74,7 @@ fn cost(has: bool, n: usize) -> usize
     0
 }
 
-fn front_length(h: Shape) -> usize
+pub fn front_length(h: Shape) -> usize
     ensures { λ r. ⌜ (r ≡ frontLength h) × (r ≤ 16) ⌝ }
 {
     4 + cost(h.server, 4) + cost(h.ballot, 4) + cost(h.promise, 4)
@@ -87,14 +87,27 @@ fn prepared_length(arrived: bool, voted: bool) -> usize
     (4 + cost(arrived, 8)) + (4 + cost(voted, 36))
 }
 
+fn copy_front(out: &mut [u8], s: &[u8], n: usize)
+    requires { ⌜ (n ≤ length (now s)) × (n ≤ length (now out)) ⌝ }
+    ensures { λ _. ⌜ now (out .exit) ≡ over (take n (now (s .entry))) (now (out .entry)) ⌝ }
+{
+    let mut i = 0;
+    while i < n {
+        out[i] = s[i];
+        i += 1;
+    }
+}
+
 pub fn bare(out: &mut [u8], code: u32, t: u32) -> Encoded
     ensures { λ r. ⌜ (r ≡ answer (sent false (cat (bareSections code t)) (now (out .entry)))) × (now (out .exit) ≡ sent false (cat (bareSections code t)) (now (out .entry)) .buffer) ⌝ }
 {
     if out.len() < 8 {
         return refused(SHORT);
     }
-    let a = put_header(out, code);
-    put_u32_at(out, a, t);
+    let mut buffer = [0u8; 176];
+    let a = put_header(&mut buffer, code);
+    put_u32_at(&mut buffer, a, t);
+    copy_front(out, &buffer, 8);
     Encoded {
         refusal: 0,
         length: 8,
@@ -122,11 +135,13 @@ pub fn asked(
     if out.len() < n {
         return refused(SHORT);
     }
-    let a = put_header(out, code);
-    let b = put_front(out, a, h, t, 0, ballot, 0);
-    let c = put_u32_at(out, b, count);
-    let d = put_piece_list(out, c, list, k);
-    put_set_if(out, d, h.set, set);
+    let mut buffer = [0u8; 176];
+    let a = put_header(&mut buffer, code);
+    let b = put_front(&mut buffer, a, h, t, 0, ballot, 0);
+    let c = put_u32_at(&mut buffer, b, count);
+    let d = put_piece_list(&mut buffer, c, list, k);
+    put_set_if(&mut buffer, d, h.set, set);
+    copy_front(out, &buffer, n);
     let length = n as u32;
     Encoded { refusal: 0, length }
 }
@@ -161,35 +176,13 @@ pub fn answered(
     if out.len() < n {
         return refused(SHORT);
     }
-    let a = put_header(out, code);
-    let b = put_front(out, a, h, t, server, ballot, promise);
-    let c = put_u64_if(out, b, h.word, word);
-    let d = put_prepared_if(out, c, h.prepared, arrival, accepted);
-    put_values_if(out, d, h.values, values);
-    let length = n as u32;
-    Encoded { refusal: 0, length }
-}
-
-fn copy_front(out: &mut [u8], s: &[u8], n: usize)
-    requires { ⌜ (n ≤ length (now s)) × (n ≤ length (now out)) ⌝ }
-    ensures { λ _. ⌜ now (out .exit) ≡ over (take n (now (s .entry))) (now (out .entry)) ⌝ }
-{
-    let mut i = 0;
-    while i < n {
-        out[i] = s[i];
-        i += 1;
-    }
-}
-
-// The first n bytes of s at the front of the output, or 14 where it is shorter.
-pub fn deliver(out: &mut [u8], s: &[u8], n: usize) -> Encoded
-    requires { ⌜ (n ≤ length (now s)) × (n < 4294967296) ⌝ }
-    ensures { λ r. ⌜ (r ≡ answer (delivered (now (s .entry)) n (now (out .entry)))) × (now (out .exit) ≡ delivered (now (s .entry)) n (now (out .entry)) .buffer) ⌝ }
-{
-    if out.len() < n {
-        return refused(SHORT);
-    }
-    copy_front(out, s, n);
+    let mut buffer = [0u8; 176];
+    let a = put_header(&mut buffer, code);
+    let b = put_front(&mut buffer, a, h, t, server, ballot, promise);
+    let c = put_u64_if(&mut buffer, b, h.word, word);
+    let d = put_prepared_if(&mut buffer, c, h.prepared, arrival, accepted);
+    put_values_if(&mut buffer, d, h.values, values);
+    copy_front(out, &buffer, n);
     let length = n as u32;
     Encoded { refusal: 0, length }
 }

@@ -1,19 +1,16 @@
 // The bytes of a message, written and read.
 ghost use mathlib.Core.Path.{_≡_};
+ghost use mathlib.Core.Bool.{true};
 ghost use Rattle.wire.specs.Bytes.{decode};
 ghost use Rattle.wire.specs.Encoding.{encode};
 ghost use Rattle.codec.specs.Answers.{answer};
-use decoding::get_front;
-use decoding::get_header;
-use decoding::long_message;
-use decoding::short_message;
-use messages::codes::shape_of;
-use shapes::has_rest;
+ghost use Rattle.codec.specs.Exact.{isBare};
+use rules::MaybeWord;
 use wire::Decoded;
 use wire::Message;
-use xdr::Cursor;
 
-mod decoding; // decoding.rt: a message read by its sections
+mod exact; // exact.rt: a message that is as long as its code says, read
+mod decoding; // decoding.rt: a message read by its sections, and the first fault
 mod encoding; // encoding.rt: a message written by its sections
 mod shapes; // shapes.rt: the kinds of messages
 
@@ -28,20 +25,62 @@ pub struct Encoded {
 pub fn decode(bytes: &[u8]) -> Decoded
     ensures { λ r. ⌜ r ≡ decode (now (bytes .entry)) ⌝ }
 {
-    let c = Cursor { at: 0, fault: 0 };
-    let k = get_header(bytes, c);
-    let code = k.v;
-    let next = k.next;
-    let h = shape_of(code);
-    let f = get_front(bytes, next, h);
-    if has_rest(h) {
-        return long_message(bytes, code, f, h);
+    let a = exact::see_asked(bytes);
+    if a.exact {
+        return exact::read_asked(bytes, a.code, a.at, a.count);
     }
-    short_message(bytes.len(), code, f)
+    let b = exact::see_answered(bytes);
+    if b.exact {
+        return exact::read_answered(bytes, b.code);
+    }
+    decoding::decode(bytes)
 }
 
-// The message's bytes at the front of the buffer, by its kind; or a refusal, and the buffer as it was.
-fn build(message: Message, out: &mut [u8]) -> Encoded
+// For a caller that gives the message on: where the bytes say a code and T alone, it can make the message in the place where it gives it.
+pub fn is_bare(bytes: &[u8]) -> bool
+    ensures { λ r. ⌜ r ≡ isBare (now (bytes .entry)) ⌝ }
+{
+    exact::is_bare(bytes)
+}
+
+pub fn decode_bare(bytes: &[u8]) -> Decoded
+    requires { ⌜ isBare (now bytes) ≡ true ⌝ }
+    ensures { λ r. ⌜ r ≡ decode (now (bytes .entry)) ⌝ }
+{
+    exact::read_bare(bytes)
+}
+
+// The same, field by field: what stands between the fields is not copied.
+pub fn by_fields(d: Decoded) -> Decoded
+    ensures { λ r. ⌜ r ≡ d ⌝ }
+{
+    let pieces = d.message.pieces;
+    let set = d.message.set;
+    let accepted = d.message.accepted;
+    let values = d.message.values;
+    Decoded {
+        refusal: d.refusal,
+        message: Message {
+            code: d.message.code,
+            t: d.message.t,
+            server: d.message.server,
+            ballot: d.message.ballot,
+            promise: d.message.promise,
+            pieces,
+            set,
+            word: d.message.word,
+            arrival: MaybeWord {
+                some: d.message.arrival.some,
+                word: d.message.arrival.word,
+            },
+            accepted,
+            values,
+        },
+    }
+}
+
+// The message's bytes at the front of the output, built in a cleared buffer and then copied; or a refusal, and the output as it was.
+pub fn encode(message: Message, out: &mut [u8]) -> Encoded
     ensures { λ r. ⌜ (r ≡ answer (encode message (now (out .entry)))) × (now (out .exit) ≡ encode message (now (out .entry)) .buffer) ⌝ }
 {
     let code = message.code;
@@ -81,15 +120,27 @@ fn build(message: Message, out: &mut [u8]) -> Encoded
     encoding::refused(encoding::UNWRITABLE)
 }
 
-// The message's bytes at the front of the output, built in a cleared buffer and then copied; or a refusal, and the output as it was.
-pub fn encode(message: Message, out: &mut [u8]) -> Encoded
+// The same, of a message that is lent: for what hosts send most, only the fields that its code has are taken from where it stands.
+pub fn encode_lent(message: Message, out: &mut [u8]) -> Encoded
     ensures { λ r. ⌜ (r ≡ answer (encode message (now (out .entry)))) × (now (out .exit) ≡ encode message (now (out .entry)) .buffer) ⌝ }
 {
-    let mut buffer = [0u8; 176];
-    let built = build(message, &mut buffer);
-    let unwritable = built.refusal != 0;
-    if unwritable {
-        return built;
+    let code = message.code;
+    if shapes::bare(code) {
+        return encoding::bare(out, code, message.t);
     }
-    encoding::deliver(out, &buffer, built.length as usize)
+    if shapes::asked(code) {
+        let list = message.pieces.list;
+        let set = message.set;
+        return encoding::asked(
+            out,
+            code,
+            message.t,
+            message.ballot,
+            list,
+            message.pieces.count,
+            set,
+        );
+    }
+    let m = message;
+    encode(m, out)
 }

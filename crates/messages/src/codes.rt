@@ -1,6 +1,6 @@
 // The fields that a message has, by its code, and who takes which code.
 ghost use mathlib.Core.Path.{_≡_};
-ghost use Rattle.wire.specs.Codes.{has, shapeOf, serverTakes, driveTakes};
+ghost use Rattle.wire.specs.Codes.{shapeOf, serverTakes, driveTakes};
 use wire::Shape;
 
 pub const PRE_ACCEPT: u32 = 0;
@@ -31,62 +31,29 @@ pub const NOT_YET: u32 = 22;
 
 pub const RESULTS: u32 = 23;
 
-// A known code, and which of these fields a message with it has.
-fn has(
-    server: bool,
-    ballot: bool,
-    promise: bool,
-    pieces: bool,
-    set: bool,
-    word: bool,
-    prepared: bool,
-    values: bool,
-) -> Shape
-    ensures { λ r. ⌜ r ≡ has server ballot promise pieces set word prepared values ⌝ }
-{
-    Shape {
-        known: true,
-        server,
-        ballot,
-        promise,
-        pieces,
-        set,
-        word,
-        prepared,
-        values,
-    }
-}
-
-// After T, a message has: server, ballot, promise, pieces, set, word, prepared (optional word, optional ballot and set), values.
+// Which fields a message with this code has: for each field, the codes that have it.
 pub fn shape_of(code: u32) -> Shape
     ensures { λ r. ⌜ r ≡ shapeOf code ⌝ }
 {
-    match code {
-        0 => has(false, true, false, true, false, false, false, false),
-        1 => has(false, true, false, true, true, false, false, false),
-        2 => has(false, false, false, true, true, false, false, false),
-        3 => has(false, true, false, true, false, false, false, false),
-        4 => has(false, false, false, false, false, false, false, false),
-        5 => has(false, false, false, false, false, false, false, false),
-        16 => has(true, true, false, false, false, true, false, false),
-        17 => has(true, true, false, false, false, false, false, false),
-        18 => has(true, false, false, false, false, false, false, false),
-        19 => has(true, true, false, false, false, false, true, false),
-        20 => has(false, false, false, true, true, false, false, false),
-        21 => has(true, true, true, false, false, false, false, false),
-        22 => has(true, false, false, false, false, false, false, false),
-        23 => has(true, false, false, false, false, false, false, true),
-        _ => Shape {
-            known: false,
-            server: false,
-            ballot: false,
-            promise: false,
-            pieces: false,
-            set: false,
-            word: false,
-            prepared: false,
-            values: false,
-        },
+    let asked = code <= FETCH;
+    let answered = (PRE_ACCEPT_OK <= code) & (code <= RESULTS);
+    let done = code == DONE;
+    let prepared = code == PREPARE_OK;
+    let word = code == PRE_ACCEPT_OK;
+    let behind = code == BEHIND;
+    let accept = code == ACCEPT;
+    let commit = (code == COMMIT) | done;
+    let asks = (code == PRE_ACCEPT) | accept | (code == PREPARE);
+    Shape {
+        known: asked | answered,
+        server: answered & !done,
+        ballot: asks | word | (code == ACCEPT_OK) | prepared | behind,
+        promise: behind,
+        pieces: asks | commit,
+        set: accept | commit,
+        word: word,
+        prepared: prepared,
+        values: code == RESULTS,
     }
 }
 

@@ -8,12 +8,14 @@ use Rattle.door.specs.declared.Answer.{Answer as door·Answer}
 use Rattle.door.specs.declared.Counted.{Counted}
 use Rattle.drive.specs.declared.Drive.{Drive}
 use Rattle.door.specs.declared.Due.{Due}
+use Rattle.codec.specs.declared.Encoded.{Encoded}
 use Rattle.door.specs.declared.LogEntry.{LogEntry}
 use Rattle.wire.specs.declared.Message.{Message}
 use Rattle.rules.specs.declared.Pieces.{Pieces}
 use Rattle.door.specs.declared.Reading.{Reading}
 use Rattle.server.specs.declared.Server.{Server}
 use Rattle.server.specs.declared.Wants.{Wants}
+use Rattle.codec.specs.Answers.{answer}
 use Rattle.door.specs.Exchange.{post, take, takeReply}
 use Rattle.door.specs.Readings.{counter, logEntry, result}
 use Rattle.door.specs.Told.{counted}
@@ -22,9 +24,13 @@ use Rattle.drive.specs.Host.{again, moveOn, recover, start}
 use Rattle.server.specs.Host.{fresh, wanted}
 use Rattle.server.specs.Run.{run, runAll}
 use Rattle.server_run.specs.Limited.{ranUpTo}
+use Rattle.wire.specs.Encoding.{encode}
 
 pub drive-lent·hear-lent : (d : Drive) (m : Message) (r r₂ : ℕ) (d′ d′₂ : Drive) → ((r ≡ hear (d) m .refusal) × (d′ ≡ hear (d) m .drive)) → ((r₂ ≡ hear (d) m .refusal) × (d′₂ ≡ hear (d) m .drive)) → (r ≡ r₂) × (d′ ≡ d′₂)
 drive-lent·hear-lent d m r r₂ d′ d′₂ p q = (p .0 ∙ sym (q .0), p .1 ∙ sym (q .1))
+
+pub station·messages·drobulets-encode : (message : Message) (output : List ℕ) (r r₂ : Encoded) (output′ output′₂ : List ℕ) → ((r ≡ answer (encode (message) (output))) × (output′ ≡ encode (message) (output) .buffer)) → ((r₂ ≡ answer (encode (message) (output))) × (output′₂ ≡ encode (message) (output) .buffer)) → (r ≡ r₂) × (output′ ≡ output′₂)
+station·messages·drobulets-encode message output r r₂ output′ output′₂ p q = (p .0 ∙ sym (q .0), p .1 ∙ sym (q .1))
 
 pub station·servers·drobulets-server-fresh : (s : Server) (id : ℕ) (r r₂ : ℕ) (s′ s′₂ : Server) → ((r ≡ fresh (s) id .refusal) × (s′ ≡ fresh (s) id .server)) → ((r₂ ≡ fresh (s) id .refusal) × (s′₂ ≡ fresh (s) id .server)) → (r ≡ r₂) × (s′ ≡ s′₂)
 station·servers·drobulets-server-fresh s id r r₂ s′ s′₂ p q = (p .0 ∙ sym (q .0), p .1 ∙ sym (q .1))

@@ -1,4 +1,4 @@
-// Messages and ballots by value: no state is lent.
+// Messages and ballots: no state is lent.
 ghost use mathlib.Core.Path.{_≡_};
 ghost use Rattle.rules.specs.Ballots.{nextBallot};
 ghost use Rattle.wire.specs.Bytes.{decode};
@@ -23,14 +23,17 @@ pub extern "C" fn drobulets_next_ballot(c: u32, n: u32) -> NextBallot
 pub extern "C" fn drobulets_decode(input: &[u8]) -> Decoded
     ensures { λ r. ⌜ r ≡ decode (now (input .entry)) ⌝ }
 {
-    codec::decode(input)
+    if codec::is_bare(input) {
+        return codec::decode_bare(input);
+    }
+    codec::by_fields(codec::decode(input))
 }
 
-// The message's bytes at the front of the output, or a refusal and the output as it was lent.
+// The bytes of the lent message at the front of the output, or a refusal and the output as it was lent.
 #[no_mangle]
-pub extern "C" fn drobulets_encode(message: Message, output: &mut [u8]) -> Encoded
-    ensures { λ r. ⌜ (r ≡ answer (encode message (now (output .entry))))
-        × (now (output .exit) ≡ encode message (now (output .entry)) .buffer) ⌝ }
+pub extern "C" fn drobulets_encode(message: &Message, output: &mut [u8]) -> Encoded
+    ensures { λ r. ⌜ (r ≡ answer (encode (now (message .entry)) (now (output .entry))))
+        × (now (output .exit) ≡ encode (now (message .entry)) (now (output .entry)) .buffer) ⌝ }
 {
-    codec::encode(message, output)
+    codec::encode_lent(*message, output)
 }

@@ -1,45 +1,41 @@
--- The header, the front and the rest read the message; without a rest the front is all. Assumes nothing.
-use mathlib.Core.Path.{sym, _∙_}
-use Rattle.codec.proofs.ReadWhole.{long-decoded, short-decoded}
+-- What is exact is read at once; the rest by sections. Assumes nothing.
 use borrow.Author.Needs.{needs}
 use Rattle.codec.proofs.decode.Statement.{statement}
 use Rattle.codec.proofs.decode.Tie as tie
 
-get-header-requires : tie.Need-get-header-requires
-get-header-requires c κs = search needs
+see-asked-requires : tie.Need-see-asked-requires
+see-asked-requires c κs = search needs
 
-shape-of-requires : tie.Need-shape-of-requires
-shape-of-requires c κs = search needs
-
-get-front-requires : tie.Need-get-front-requires
-get-front-requires c κs = search needs
-
-has-rest-requires : tie.Need-has-rest-requires
-has-rest-requires c κs = search needs
-
-long-message-requires : tie.Need-long-message-requires
-long-message-requires c κs = search needs
+read-asked-requires : tie.Need-read-asked-requires
+read-asked-requires c κs = c .before .see-asked .ensures (c .if1 .taken)
 
 returns : tie.Need-returns
-returns c =
-    c .long-message .ensures ∙ long-decoded _ (c .before .before .before .before .shape-of .result) (c .before .before .before .before .shape-of .ensures) (c .before .before .before .before .before .before .get-header .ensures) (c .before .before .before .get-front .ensures)
+returns c = search needs
 
-short-message-requires : tie.Need-short-message-requires
-short-message-requires c κs = search needs
+see-answered-requires : tie.Need-see-answered-requires
+see-answered-requires c κs = search needs
+
+read-answered-requires : tie.Need-read-answered-requires
+read-answered-requires c κs = c .before .see-answered .ensures (c .if2 .taken)
 
 returns-2 : tie.Need-returns-2
-returns-2 c =
-    c .short-message .ensures ∙ short-decoded _ (c .before .before .before .before .shape-of .result) (c .before .before .before .before .shape-of .ensures) (c .before .before .before .before .before .before .get-header .ensures) (c .before .before .before .get-front .ensures) (sym (c .before .before .has-rest .ensures) ∙ c .before .if1 .left)
+returns-2 c = search needs
+
+decode-requires : tie.Need-decode-requires
+decode-requires c κs = search needs
+
+returns-3 : tie.Need-returns-3
+returns-3 c = search needs
 
 pub decode-spec : {M : Type 1} → statement M
 decode-spec =
     tie.close
     (tie.spec
-    get-header-requires
-    shape-of-requires
-    get-front-requires
-    has-rest-requires
-    long-message-requires
+    see-asked-requires
+    read-asked-requires
     returns
-    short-message-requires
-    returns-2)
+    see-answered-requires
+    read-answered-requires
+    returns-2
+    decode-requires
+    returns-3)

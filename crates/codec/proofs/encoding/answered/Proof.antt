@@ -11,7 +11,7 @@ use Rattle.wire.specs.Encoding.{Encoding}
 use Rattle.codec.specs.Answers.{answer, sent}
 use Rattle.codec.specs.Sections.{cat}
 use Rattle.codec.specs.ByKind.{answeredSections}
-use Rattle.codec.proofs.WriteWhole.{none-put, section-room, section-put}
+use Rattle.codec.proofs.WriteWhole.{cleared, none-put, section-room, section-put}
 use Rattle.codec.proofs.EncodeWhole.{answered-length, few-values, sent-12, sent-14, sent-all}
 use borrow.Author.Tests.{ltb-false}
 use Rattle.wire.specs.declared.Shape.{Shape}
@@ -20,7 +20,7 @@ use Rattle.codec.specs.Answers.{answer, sent}
 use Rattle.codec.specs.Sections.{cat}
 use Rattle.codec.specs.ByKind.{answeredSections}
 use Rattle.codec.proofs.WriteWhole.{none-put, section-room, section-put}
-use Rattle.codec.proofs.EncodeWhole.{answered-length, sent-12, sent-14, sent-all}
+use Rattle.codec.proofs.EncodeWhole.{answered-length, few-values, sent-12, sent-14, sent-all}
 use borrow.Author.Needs.{needs}
 use Rattle.codec.proofs.encoding.answered.Statement.{statement}
 use Rattle.codec.proofs.encoding.answered.Tie as tie
@@ -89,54 +89,93 @@ returns-2 c =
     let f = c .before .before .before .before .before .front-length .ensures in
     let w = c .before .before .before .before .cost .ensures in
     let q = c .before .before .before .before .before .before .prepared-length .ensures in
-    let p = rw (q .0) at (c .before .before .before .cost2 .ensures .0) in
+    let p′ = c .before .before .before .cost2 .ensures in
+    let p = rw (q .0) at (p′ .0) in
     let v = c .before .before .cost3 .ensures in
     let k = answered-length h (a .code) (a .t) (a .server) (a .ballot) (a .promise) (a .word) (a .arrival) (a .accepted) (a .values) (simp length-map at (c₀ .good .1 .1 .1 .1 .1 .1 .1 .1 .1 .0 .1 .1 .0 .1 .0 .1)) (λ g. ltb-false 8 (a .values .count) (rw g at few)) in
     let e = sent-14 (cat ss) (a .out .now) few refl (omega (arith, c .before .if2 .taken)) ∙ ap (λ (x : Shape). sent (x .values && ltb 8 (a .values .count)) (cat (answeredSections x (a .code) (a .t) (a .server) (a .ballot) (a .promise) (a .word) (a .arrival) (a .accepted) (a .values))) (a .out .now)) (c .before .before .before .before .before .before .before .before .before .before .before .before .before .answered-shape .ensures) in
     (c .refused2 .ensures ∙ ap answer e, ap (λ (x : Encoding). x .buffer) e)
 
+slice-aggregate-put-header : tie.Need-slice-aggregate-put-header
+slice-aggregate-put-header c = search needs
+
 put-header-requires : tie.Need-put-header-requires
 put-header-requires c κs = search needs
 
+slice-aggregate-put-front : tie.Need-slice-aggregate-put-front
+slice-aggregate-put-front c = search needs
+
 put-front-requires : tie.Need-put-front-requires
 put-front-requires c κs =
-    let c₀ = c .before .before .before .before .before .before .before .before .before .before .before .before .before .before .before .before .before .before .before in
+    let c₀ = c .before .before .before .before .before .before .before .before .before .before .before .before .before .before .before .before .before .before in
     let a = c₀ .args in
-    let h = c .before .before .before .before .before .before .before .before .before .before .before .before .before .before .before .before .before .answered-shape .result in
+    let h = c .before .before .before .before .before .before .before .before .before .before .before .before .before .before .before .before .answered-shape .result in
     let ss = answeredSections h (a .code) (a .t) (a .server) (a .ballot) (a .promise) (a .word) (a .arrival) (a .accepted) (a .values) in
-    let few = c .before .before .before .before .before .before .before .before .before .before .before .before .before .before .if1 .left in
-    let f = c .before .before .before .before .before .before .before .before .before .front-length .ensures in
-    let w = c .before .before .before .before .before .before .before .before .cost .ensures in
-    let q = c .before .before .before .before .before .before .before .before .before .before .prepared-length .ensures in
-    let p = rw (q .0) at (c .before .before .before .before .before .before .before .cost2 .ensures .0) in
-    let v = c .before .before .before .before .before .before .cost3 .ensures in
+    let few = c .before .before .before .before .before .before .before .before .before .before .before .before .before .if1 .left in
+    let f = c .before .before .before .before .before .before .before .before .front-length .ensures in
+    let w = c .before .before .before .before .before .before .before .cost .ensures in
+    let q = c .before .before .before .before .before .before .before .before .before .prepared-length .ensures in
+    let p′ = c .before .before .before .before .before .before .cost2 .ensures in
+    let p = rw (q .0) at (p′ .0) in
+    let v = c .before .before .before .before .before .cost3 .ensures in
     let k = answered-length h (a .code) (a .t) (a .server) (a .ballot) (a .promise) (a .word) (a .arrival) (a .accepted) (a .values) (simp length-map at (c₀ .good .1 .1 .1 .1 .1 .1 .1 .1 .1 .0 .1 .1 .0 .1 .0 .1)) (λ g. ltb-false 8 (a .values .count) (rw g at few)) in
-    let fits = c .before .before .before .before .before .if2 .left in
-    let room : 0 + length (cat ss) ≤ length (a .out .now) = omega arith in
-    let p₁ = section-put ss 0 (a .out .now) room 0 (lit< tt) (none-put ss 0 (a .out .now) room) (c .before .before .before .put-header .ensures) in
-    section-room ss 0 (a .out .now) room 1 (lit< tt) p₁
+    let most = few-values (h .values) (a .values .count) (λ g. ltb-false 8 (a .values .count) (rw g at few)) in
+    let room : 0 + length (cat ss) ≤ length cleared = omega arith in
+    let p₁ = section-put ss 0 cleared room 0 (lit< tt) (none-put ss 0 cleared room) (c .before .before .put-header .ensures) in
+    section-room ss 0 cleared room 1 (lit< tt) p₁
+
+slice-aggregate-put-u64-if : tie.Need-slice-aggregate-put-u64-if
+slice-aggregate-put-u64-if c = search needs
 
 put-u64-if-requires : tie.Need-put-u64-if-requires
 put-u64-if-requires c κs =
-    let c₀ = c .before .before .before .before .before .before .before .before .before .before .before .before .before .before .before .before .before .before .before .before .before .before .before in
+    let c₀ = c .before .before .before .before .before .before .before .before .before .before .before .before .before .before .before .before .before .before .before .before .before in
     let a = c₀ .args in
-    let h = c .before .before .before .before .before .before .before .before .before .before .before .before .before .before .before .before .before .before .before .before .before .answered-shape .result in
+    let h = c .before .before .before .before .before .before .before .before .before .before .before .before .before .before .before .before .before .before .before .answered-shape .result in
     let ss = answeredSections h (a .code) (a .t) (a .server) (a .ballot) (a .promise) (a .word) (a .arrival) (a .accepted) (a .values) in
-    let few = c .before .before .before .before .before .before .before .before .before .before .before .before .before .before .before .before .before .before .if1 .left in
-    let f = c .before .before .before .before .before .before .before .before .before .before .before .before .before .front-length .ensures in
-    let w = c .before .before .before .before .before .before .before .before .before .before .before .before .cost .ensures in
-    let q = c .before .before .before .before .before .before .before .before .before .before .before .before .before .before .prepared-length .ensures in
-    let p = rw (q .0) at (c .before .before .before .before .before .before .before .before .before .before .before .cost2 .ensures .0) in
-    let v = c .before .before .before .before .before .before .before .before .before .before .cost3 .ensures in
+    let few = c .before .before .before .before .before .before .before .before .before .before .before .before .before .before .before .before .if1 .left in
+    let f = c .before .before .before .before .before .before .before .before .before .before .before .front-length .ensures in
+    let w = c .before .before .before .before .before .before .before .before .before .before .cost .ensures in
+    let q = c .before .before .before .before .before .before .before .before .before .before .before .before .prepared-length .ensures in
+    let p′ = c .before .before .before .before .before .before .before .before .before .cost2 .ensures in
+    let p = rw (q .0) at (p′ .0) in
+    let v = c .before .before .before .before .before .before .before .before .cost3 .ensures in
     let k = answered-length h (a .code) (a .t) (a .server) (a .ballot) (a .promise) (a .word) (a .arrival) (a .accepted) (a .values) (simp length-map at (c₀ .good .1 .1 .1 .1 .1 .1 .1 .1 .1 .0 .1 .1 .0 .1 .0 .1)) (λ g. ltb-false 8 (a .values .count) (rw g at few)) in
-    let fits = c .before .before .before .before .before .before .before .before .before .if2 .left in
-    let room : 0 + length (cat ss) ≤ length (a .out .now) = omega arith in
-    let p₁ = section-put ss 0 (a .out .now) room 0 (lit< tt) (none-put ss 0 (a .out .now) room) (c .before .before .before .before .before .before .before .put-header .ensures) in
-    let p₂ = section-put ss 0 (a .out .now) room 1 (lit< tt) p₁ (c .before .before .before .put-front .ensures) in
-    section-room ss 0 (a .out .now) room 2 (lit< tt) p₂
+    let most = few-values (h .values) (a .values .count) (λ g. ltb-false 8 (a .values .count) (rw g at few)) in
+    let room : 0 + length (cat ss) ≤ length cleared = omega arith in
+    let p₁ = section-put ss 0 cleared room 0 (lit< tt) (none-put ss 0 cleared room) (c .before .before .before .before .before .put-header .ensures) in
+    let p₂ = section-put ss 0 cleared room 1 (lit< tt) p₁ (c .before .before .put-front .ensures) in
+    section-room ss 0 cleared room 2 (lit< tt) p₂
+
+slice-aggregate-put-prepared-if : tie.Need-slice-aggregate-put-prepared-if
+slice-aggregate-put-prepared-if c = search needs
 
 put-prepared-if-requires : tie.Need-put-prepared-if-requires
 put-prepared-if-requires c κs =
+    let c₀ = c .before .before .before .before .before .before .before .before .before .before .before .before .before .before .before .before .before .before .before .before .before .before .before .before in
+    let a = c₀ .args in
+    let h = c .before .before .before .before .before .before .before .before .before .before .before .before .before .before .before .before .before .before .before .before .before .before .answered-shape .result in
+    let ss = answeredSections h (a .code) (a .t) (a .server) (a .ballot) (a .promise) (a .word) (a .arrival) (a .accepted) (a .values) in
+    let few = c .before .before .before .before .before .before .before .before .before .before .before .before .before .before .before .before .before .before .before .if1 .left in
+    let f = c .before .before .before .before .before .before .before .before .before .before .before .before .before .before .front-length .ensures in
+    let w = c .before .before .before .before .before .before .before .before .before .before .before .before .before .cost .ensures in
+    let q = c .before .before .before .before .before .before .before .before .before .before .before .before .before .before .before .prepared-length .ensures in
+    let p′ = c .before .before .before .before .before .before .before .before .before .before .before .before .cost2 .ensures in
+    let p = rw (q .0) at (p′ .0) in
+    let v = c .before .before .before .before .before .before .before .before .before .before .before .cost3 .ensures in
+    let k = answered-length h (a .code) (a .t) (a .server) (a .ballot) (a .promise) (a .word) (a .arrival) (a .accepted) (a .values) (simp length-map at (c₀ .good .1 .1 .1 .1 .1 .1 .1 .1 .1 .0 .1 .1 .0 .1 .0 .1)) (λ g. ltb-false 8 (a .values .count) (rw g at few)) in
+    let most = few-values (h .values) (a .values .count) (λ g. ltb-false 8 (a .values .count) (rw g at few)) in
+    let room : 0 + length (cat ss) ≤ length cleared = omega arith in
+    let p₁ = section-put ss 0 cleared room 0 (lit< tt) (none-put ss 0 cleared room) (c .before .before .before .before .before .before .before .before .put-header .ensures) in
+    let p₂ = section-put ss 0 cleared room 1 (lit< tt) p₁ (c .before .before .before .before .before .put-front .ensures) in
+    let p₃ = section-put ss 0 cleared room 2 (lit< tt) p₂ (c .before .before .put-u64-if .ensures) in
+    section-room ss 0 cleared room 3 (lit< tt) p₃
+
+slice-aggregate-put-values-if : tie.Need-slice-aggregate-put-values-if
+slice-aggregate-put-values-if c = search needs
+
+put-values-if-requires : tie.Need-put-values-if-requires
+put-values-if-requires c κs =
     let c₀ = c .before .before .before .before .before .before .before .before .before .before .before .before .before .before .before .before .before .before .before .before .before .before .before .before .before .before .before in
     let a = c₀ .args in
     let h = c .before .before .before .before .before .before .before .before .before .before .before .before .before .before .before .before .before .before .before .before .before .before .before .before .before .answered-shape .result in
@@ -145,18 +184,23 @@ put-prepared-if-requires c κs =
     let f = c .before .before .before .before .before .before .before .before .before .before .before .before .before .before .before .before .before .front-length .ensures in
     let w = c .before .before .before .before .before .before .before .before .before .before .before .before .before .before .before .before .cost .ensures in
     let q = c .before .before .before .before .before .before .before .before .before .before .before .before .before .before .before .before .before .before .prepared-length .ensures in
-    let p = rw (q .0) at (c .before .before .before .before .before .before .before .before .before .before .before .before .before .before .before .cost2 .ensures .0) in
+    let p′ = c .before .before .before .before .before .before .before .before .before .before .before .before .before .before .before .cost2 .ensures in
+    let p = rw (q .0) at (p′ .0) in
     let v = c .before .before .before .before .before .before .before .before .before .before .before .before .before .before .cost3 .ensures in
     let k = answered-length h (a .code) (a .t) (a .server) (a .ballot) (a .promise) (a .word) (a .arrival) (a .accepted) (a .values) (simp length-map at (c₀ .good .1 .1 .1 .1 .1 .1 .1 .1 .1 .0 .1 .1 .0 .1 .0 .1)) (λ g. ltb-false 8 (a .values .count) (rw g at few)) in
-    let fits = c .before .before .before .before .before .before .before .before .before .before .before .before .before .if2 .left in
-    let room : 0 + length (cat ss) ≤ length (a .out .now) = omega arith in
-    let p₁ = section-put ss 0 (a .out .now) room 0 (lit< tt) (none-put ss 0 (a .out .now) room) (c .before .before .before .before .before .before .before .before .before .before .before .put-header .ensures) in
-    let p₂ = section-put ss 0 (a .out .now) room 1 (lit< tt) p₁ (c .before .before .before .before .before .before .before .put-front .ensures) in
-    let p₃ = section-put ss 0 (a .out .now) room 2 (lit< tt) p₂ (c .before .before .before .put-u64-if .ensures) in
-    section-room ss 0 (a .out .now) room 3 (lit< tt) p₃
+    let most = few-values (h .values) (a .values .count) (λ g. ltb-false 8 (a .values .count) (rw g at few)) in
+    let room : 0 + length (cat ss) ≤ length cleared = omega arith in
+    let p₁ = section-put ss 0 cleared room 0 (lit< tt) (none-put ss 0 cleared room) (c .before .before .before .before .before .before .before .before .before .before .before .put-header .ensures) in
+    let p₂ = section-put ss 0 cleared room 1 (lit< tt) p₁ (c .before .before .before .before .before .before .before .before .put-front .ensures) in
+    let p₃ = section-put ss 0 cleared room 2 (lit< tt) p₂ (c .before .before .before .before .before .put-u64-if .ensures) in
+    let p₄ = section-put ss 0 cleared room 3 (lit< tt) p₃ (c .before .before .put-prepared-if .ensures) in
+    (section-room ss 0 cleared room 4 (lit< tt) p₄, λ g. ltb-false 8 (a .values .count) (rw g at few))
 
-put-values-if-requires : tie.Need-put-values-if-requires
-put-values-if-requires c κs =
+slice-aggregate-copy-front : tie.Need-slice-aggregate-copy-front
+slice-aggregate-copy-front c = search needs
+
+copy-front-requires : tie.Need-copy-front-requires
+copy-front-requires c κs =
     let c₀ = c .before .before .before .before .before .before .before .before .before .before .before .before .before .before .before .before .before .before .before .before .before .before .before .before .before .before .before .before .before .before .before in
     let a = c₀ .args in
     let h = c .before .before .before .before .before .before .before .before .before .before .before .before .before .before .before .before .before .before .before .before .before .before .before .before .before .before .before .before .before .answered-shape .result in
@@ -165,16 +209,12 @@ put-values-if-requires c κs =
     let f = c .before .before .before .before .before .before .before .before .before .before .before .before .before .before .before .before .before .before .before .before .before .front-length .ensures in
     let w = c .before .before .before .before .before .before .before .before .before .before .before .before .before .before .before .before .before .before .before .before .cost .ensures in
     let q = c .before .before .before .before .before .before .before .before .before .before .before .before .before .before .before .before .before .before .before .before .before .before .prepared-length .ensures in
-    let p = rw (q .0) at (c .before .before .before .before .before .before .before .before .before .before .before .before .before .before .before .before .before .before .before .cost2 .ensures .0) in
+    let p = c .before .before .before .before .before .before .before .before .before .before .before .before .before .before .before .before .before .before .before .cost2 .ensures in
     let v = c .before .before .before .before .before .before .before .before .before .before .before .before .before .before .before .before .before .before .cost3 .ensures in
-    let k = answered-length h (a .code) (a .t) (a .server) (a .ballot) (a .promise) (a .word) (a .arrival) (a .accepted) (a .values) (simp length-map at (c₀ .good .1 .1 .1 .1 .1 .1 .1 .1 .1 .0 .1 .1 .0 .1 .0 .1)) (λ g. ltb-false 8 (a .values .count) (rw g at few)) in
+    let most = few-values (h .values) (a .values .count) (λ g. ltb-false 8 (a .values .count) (rw g at few)) in
     let fits = c .before .before .before .before .before .before .before .before .before .before .before .before .before .before .before .before .before .if2 .left in
-    let room : 0 + length (cat ss) ≤ length (a .out .now) = omega arith in
-    let p₁ = section-put ss 0 (a .out .now) room 0 (lit< tt) (none-put ss 0 (a .out .now) room) (c .before .before .before .before .before .before .before .before .before .before .before .before .before .before .before .put-header .ensures) in
-    let p₂ = section-put ss 0 (a .out .now) room 1 (lit< tt) p₁ (c .before .before .before .before .before .before .before .before .before .before .before .put-front .ensures) in
-    let p₃ = section-put ss 0 (a .out .now) room 2 (lit< tt) p₂ (c .before .before .before .before .before .before .before .put-u64-if .ensures) in
-    let p₄ = section-put ss 0 (a .out .now) room 3 (lit< tt) p₃ (c .before .before .before .put-prepared-if .ensures) in
-    (section-room ss 0 (a .out .now) room 4 (lit< tt) p₄, λ g. ltb-false 8 (a .values .count) (rw g at few))
+    let same = c .before .before .before .put-values-if .kept .0 ∙ c .before .before .before .before .before .before .put-prepared-if .kept .0 ∙ c .before .before .before .before .before .before .before .before .before .put-u64-if .kept .0 ∙ c .before .before .before .before .before .before .before .before .before .before .before .before .put-front .kept .0 ∙ c .before .before .before .before .before .before .before .before .before .before .before .before .before .before .before .put-header .kept .0 in
+    (omega arith, omega arith)
 
 cast-length : tie.Need-cast-length
 cast-length c =
@@ -203,18 +243,20 @@ returns-3 c =
     let f = c .before .before .before .before .before .before .before .before .before .before .before .before .before .before .before .before .before .before .before .before .before .before .before .before .front-length .ensures in
     let w = c .before .before .before .before .before .before .before .before .before .before .before .before .before .before .before .before .before .before .before .before .before .before .before .cost .ensures in
     let q = c .before .before .before .before .before .before .before .before .before .before .before .before .before .before .before .before .before .before .before .before .before .before .before .before .before .prepared-length .ensures in
-    let p = rw (q .0) at (c .before .before .before .before .before .before .before .before .before .before .before .before .before .before .before .before .before .before .before .before .before .before .cost2 .ensures .0) in
+    let p′ = c .before .before .before .before .before .before .before .before .before .before .before .before .before .before .before .before .before .before .before .before .before .before .cost2 .ensures in
+    let p = rw (q .0) at (p′ .0) in
     let v = c .before .before .before .before .before .before .before .before .before .before .before .before .before .before .before .before .before .before .before .before .before .cost3 .ensures in
     let k = answered-length h (a .code) (a .t) (a .server) (a .ballot) (a .promise) (a .word) (a .arrival) (a .accepted) (a .values) (simp length-map at (c₀ .good .1 .1 .1 .1 .1 .1 .1 .1 .1 .0 .1 .1 .0 .1 .0 .1)) (λ g. ltb-false 8 (a .values .count) (rw g at few)) in
+    let most = few-values (h .values) (a .values .count) (λ g. ltb-false 8 (a .values .count) (rw g at few)) in
+    let room : 0 + length (cat ss) ≤ length cleared = omega arith in
+    let p₁ = section-put ss 0 cleared room 0 (lit< tt) (none-put ss 0 cleared room) (c .before .before .before .before .before .before .before .before .before .before .before .before .before .before .before .before .before .before .put-header .ensures) in
+    let p₂ = section-put ss 0 cleared room 1 (lit< tt) p₁ (c .before .before .before .before .before .before .before .before .before .before .before .before .before .before .before .put-front .ensures) in
+    let p₃ = section-put ss 0 cleared room 2 (lit< tt) p₂ (c .before .before .before .before .before .before .before .before .before .before .before .before .put-u64-if .ensures) in
+    let p₄ = section-put ss 0 cleared room 3 (lit< tt) p₃ (c .before .before .before .before .before .before .before .before .before .put-prepared-if .ensures) in
+    let p₅ = section-put ss 0 cleared room 4 (lit< tt) p₄ (c .before .before .before .before .before .before .put-values-if .ensures) in
     let fits = c .before .before .before .before .before .before .before .before .before .before .before .before .before .before .before .before .before .before .before .before .if2 .left in
-    let room : 0 + length (cat ss) ≤ length (a .out .now) = omega arith in
-    let p₁ = section-put ss 0 (a .out .now) room 0 (lit< tt) (none-put ss 0 (a .out .now) room) (c .before .before .before .before .before .before .before .before .before .before .before .before .before .before .before .before .before .before .put-header .ensures) in
-    let p₂ = section-put ss 0 (a .out .now) room 1 (lit< tt) p₁ (c .before .before .before .before .before .before .before .before .before .before .before .before .before .before .put-front .ensures) in
-    let p₃ = section-put ss 0 (a .out .now) room 2 (lit< tt) p₂ (c .before .before .before .before .before .before .before .before .before .before .put-u64-if .ensures) in
-    let p₄ = section-put ss 0 (a .out .now) room 3 (lit< tt) p₃ (c .before .before .before .before .before .before .put-prepared-if .ensures) in
-    let p₅ = section-put ss 0 (a .out .now) room 4 (lit< tt) p₄ (c .before .before .put-values-if .ensures) in
     let all : length (cat ss) ≡ ((((4 + c .before .before .before .before .before .before .before .before .before .before .before .before .before .before .before .before .before .before .before .before .before .before .before .before .front-length .result) + c .before .before .before .before .before .before .before .before .before .before .before .before .before .before .before .before .before .before .before .before .before .before .before .cost .result) + c .before .before .before .before .before .before .before .before .before .before .before .before .before .before .before .before .before .before .before .before .before .before .cost2 .result) + c .before .before .before .before .before .before .before .before .before .before .before .before .before .before .before .before .before .before .before .before .before .cost3 .result) = omega arith in
-    let e = sent-all (cat ss) (a .out .now) few all (omega arith) p₅ ∙ ap (λ (x : Shape). sent (x .values && ltb 8 (a .values .count)) (cat (answeredSections x (a .code) (a .t) (a .server) (a .ballot) (a .promise) (a .word) (a .arrival) (a .accepted) (a .values))) (a .out .now)) (c .before .before .before .before .before .before .before .before .before .before .before .before .before .before .before .before .before .before .before .before .before .before .before .before .before .before .before .before .before .before .before .before .answered-shape .ensures) in
+    let e = sent-all (cat ss) (a .out .now) few all (omega arith) p₅ (c .before .before .copy-front .ensures) ∙ ap (λ (x : Shape). sent (x .values && ltb 8 (a .values .count)) (cat (answeredSections x (a .code) (a .t) (a .server) (a .ballot) (a .promise) (a .word) (a .arrival) (a .accepted) (a .values))) (a .out .now)) (c .before .before .before .before .before .before .before .before .before .before .before .before .before .before .before .before .before .before .before .before .before .before .before .before .before .before .before .before .before .before .before .before .answered-shape .ensures) in
     (ap answer e, ap (λ (x : Encoding). x .buffer) e)
 
 pub answered-spec : {M : Type 1} → statement M
@@ -238,11 +280,18 @@ answered-spec =
     add-n-4
     refused-requires-2
     returns-2
+    slice-aggregate-put-header
     put-header-requires
+    slice-aggregate-put-front
     put-front-requires
+    slice-aggregate-put-u64-if
     put-u64-if-requires
+    slice-aggregate-put-prepared-if
     put-prepared-if-requires
+    slice-aggregate-put-values-if
     put-values-if-requires
+    slice-aggregate-copy-front
+    copy-front-requires
     cast-length
     same-length
     returns-3)

@@ -1,22 +1,13 @@
 -- The bytes so far stand at the front, and the rest is as it was. Assumes nothing.
 use mathlib.Core.Path.{_≡_, refl, ap, _∙_}
 use mathlib.Core.List.{List}
-use Prim.Native.Nat.{ℕ, _+_, _<_, _≤_, _-_}
+use Prim.Native.Nat.{ℕ, _≤_, _-_}
 use native.Mathlib.Omega.{arith}
 use lib.ListN.{length, take, set, getD, length-set}
-use lib.Seq.{length-take-le, paste-suc}
-use native.Mathlib.Nat.{zero-add}
-use native.Mathlib.Numerals.{add-one}
 use Rattle.xdr.specs.Over.{over}
+use Rattle.codec.proofs.WriteWhole.{copy-more}
 use Rattle.codec.proofs.encoding.copy_front.Statement.{statement}
 use Rattle.codec.proofs.encoding.copy_front.Tie as tie
-
--- one more element is copied to the front
-copy-more : (s z : List ℕ) (i : ℕ) → i < length z → i < length s → set (over (take i s) z) i (getD s i 0) ≡ over (take (i + 1) s) z
-unfolding over
-copy-more s z i h k =
-    let e = paste-suc z 0 s i 0 (rw zero-add h) k in
-    rw (length-take-le i s (omega arith), length-take-le (i + 1) s (omega arith), add-one) (rw (zero-add, zero-add) at e)
 
 abbrev Inv-loop : tie.InvT-loop
 Inv-loop out₀ s n i₀ out i = (i ≤ n) × (length out ≡ length out₀) × (out ≡ over (take i s) out₀)
