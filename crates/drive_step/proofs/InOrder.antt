@@ -1,6 +1,6 @@
 -- The refusals in two parts are the refusals of `drive` in its order, and what holds of a reply that is not refused. Assumes nothing.
 use mathlib.Core.Path.{_≡_, refl, sym, subst, _∙_}
-use mathlib.Core.Bool.{Bool, true, false, not, _&&_, _||_, or-false}
+use mathlib.Core.Bool.{Bool, true, false, not, _&&_, _||_, or-false, or-assoc}
 use mathlib.Core.Logic.{⊎-elim}
 use Prim.Native.Nat.{ℕ, _<_}
 use native.Mathlib.Decide.{decLt}
@@ -10,7 +10,7 @@ use lib.Dec.{eqb, leb, ltb}
 use lib.ListN.{length, List·getD-eq-default}
 use Rattle.masks.specs.Bits.{has}
 use Rattle.masks.specs.Folds.{maskOf}
-use Rattle.masks.proofs.Bools.{or-no-l, or-no-r, or-yes, not-no, true-and-false}
+use Rattle.masks.proofs.Bools.{or-no-l, or-no-r, or-yes, not-no, true-or-false, true-and-false}
 use Rattle.masks.proofs.FoldLaws.{has-mask}
 use Rattle.rules.specs.Choice.{_if_else_}
 use Rattle.rules.specs.Flags.{there}
@@ -29,16 +29,16 @@ use Rattle.drive.proofs.FormParts.{formed-parts}
 use Rattle.drive_form.specs.declared.Walked.{Walked}
 use Rattle.drive_form.specs.Parts.{walkedTo, formedBy}
 use Rattle.drive_form.proofs.Parts.{formed-by}
-use Rattle.drive_step.specs.Refusals.{badHead, elsewhere, badHeld, answerBy, doneBy, judgedBy, firstOf}
+use Rattle.drive_step.specs.Refusals.{badHead, elsewhere, badHeld, firstOfThree, doneBy, judgedBy, firstOf}
 
--- ---- the codes of a server's reply
+-- ---- the codes that a drive takes
 
-served : (P : ℕ → Type 0) → P 16 → P 17 → P 19 → P 21 → (k : ℕ) → driveTakes k ≡ true → eqb k Done ≡ false → P k
-served P p16 p17 p19 p21 k e done =
+by-taken : (P : ℕ → Type 0) → P 16 → P 17 → P 19 → P 20 → P 21 → (k : ℕ) → driveTakes k ≡ true → P k
+by-taken P p16 p17 p19 p20 p21 k e =
     ⊎-elim
     (λ p. ⊎-elim
     (λ q. ⊎-elim (λ r. ⊎-elim (at 16 p16) (at 17 p17) (or-yes (eqb k 16) (eqb k 17) r)) (at 19 p19) (or-yes (eqb k 16 || eqb k 17) (eqb k 19) q))
-    (λ q. absurd (true-and-false q done))
+    (at 20 p20)
     (or-yes (eqb k 16 || eqb k 17 || eqb k 19) (eqb k 20) p))
     (at 21 p21)
     (or-yes (eqb k 16 || eqb k 17 || eqb k 19 || eqb k 20) (eqb k 21) e)
@@ -71,41 +71,52 @@ module _ (d : Drive) (full : length (d .answers) ≡ 12) (m : Message) where
       else 3 if badSets (touched d) m
       else 0
 
-  done-by : m .code ≡ Done → doneBy (d .t) (d .phase) (d .pieces) (touched d) (m .t) (m .pieces) (m .set) ≡ inOrder
-  unfolding doneBy notTaken overCount badNumbers badPieces misplaced otherPhase otherPieces badSets shapeOf
-  done-by e = rw e (simp or-false)
+  abbrev judged : ℕ
+  judged = judgedBy (d .t) (d .ballot) (d .phase) (d .pieces) (touched d) counts m
 
-  abbrev Answers : Type 0
-  Answers = answerBy (d .t) (d .ballot) (d .phase) (touched d) counts m ≡ inOrder
+  abbrev Judged : Type 0
+  Judged = judged ≡ inOrder
 
-  at-16 : m .code ≡ 16 → Answers
-  unfolding answerBy badHead elsewhere badHeld notTaken overCount badNumbers badPieces misplaced otherPhase otherPieces badSets shapeOf
-  at-16 e = rw (counted-by (m .server), e) (simp or-false)
+  at-16 : m .code ≡ 16 → Judged
+  unfolding judgedBy firstOfThree badHead elsewhere badHeld doneBy notTaken overCount badNumbers badPieces misplaced otherPhase otherPieces badSets shapeOf
+  at-16 e = rw (counted-by (m .server), e) (simp (or-false, or-assoc))
 
-  at-17 : m .code ≡ 17 → Answers
-  unfolding answerBy badHead elsewhere badHeld notTaken overCount badNumbers badPieces misplaced otherPhase otherPieces badSets shapeOf
-  at-17 e = rw (counted-by (m .server), e) (simp or-false)
+  at-17 : m .code ≡ 17 → Judged
+  unfolding judgedBy firstOfThree badHead elsewhere badHeld doneBy notTaken overCount badNumbers badPieces misplaced otherPhase otherPieces badSets shapeOf
+  at-17 e = rw (counted-by (m .server), e) (simp (or-false, or-assoc))
 
-  at-19 : m .code ≡ 19 → Answers
-  unfolding answerBy badHead elsewhere badHeld notTaken overCount badNumbers badPieces misplaced otherPhase otherPieces badSets shapeOf
-  at-19 e = rw (counted-by (m .server), e) (simp or-false)
+  at-19 : m .code ≡ 19 → Judged
+  unfolding judgedBy firstOfThree badHead elsewhere badHeld doneBy notTaken overCount badNumbers badPieces misplaced otherPhase otherPieces badSets shapeOf
+  at-19 e = rw (counted-by (m .server), e) (simp (or-false, or-assoc))
 
-  at-21 : m .code ≡ 21 → Answers
-  unfolding answerBy badHead elsewhere badHeld notTaken overCount badNumbers badPieces misplaced otherPhase otherPieces badSets shapeOf
-  at-21 e = rw (counted-by (m .server), e) (simp or-false)
+  at-20 : m .code ≡ 20 → Judged
+  unfolding judgedBy firstOfThree badHead elsewhere badHeld doneBy notTaken overCount badNumbers badPieces misplaced otherPhase otherPieces badSets shapeOf
+  at-20 e = rw e (simp or-false)
 
-  strange : driveTakes (m .code) ≡ false → notTaken m ≡ true
+  at-21 : m .code ≡ 21 → Judged
+  unfolding judgedBy firstOfThree badHead elsewhere badHeld doneBy notTaken overCount badNumbers badPieces misplaced otherPhase otherPieces badSets shapeOf
+  at-21 e = rw (counted-by (m .server), e) (simp (or-false, or-assoc))
+
+  strange : driveTakes (m .code) ≡ false → 12 ≡ inOrder
   unfolding notTaken
   strange e = rw e
 
-  by-code : (done taken : Bool) → eqb (m .code) Done ≡ done → driveTakes (m .code) ≡ taken → judgedBy (d .t) (d .ballot) (d .phase) (d .pieces) (touched d) counts m ≡ inOrder
+  not-judged : driveTakes (m .code) ≡ false → judged ≡ 12
   unfolding judgedBy
-  by-code true taken e f = rw e (done-by (eqb-true (m .code) Done e))
-  by-code false true e f = rw (f, e) (served (λ k. m .code ≡ k → Answers) at-16 at-17 at-19 at-21 (m .code) f e refl)
-  by-code false false e f = rw (f, e, strange f)
+  not-judged e =
+      let k = m .code in
+      let e20 = or-no-l (eqb k 16 || eqb k 17 || eqb k 19 || eqb k 20) (eqb k 21) e in
+      let e19 = or-no-l (eqb k 16 || eqb k 17 || eqb k 19) (eqb k 20) e20 in
+      let e17 = or-no-l (eqb k 16 || eqb k 17) (eqb k 19) e19 in
+      rw
+      (or-no-l (eqb k 16) (eqb k 17) e17, or-no-r (eqb k 16) (eqb k 17) e17, or-no-r (eqb k 16 || eqb k 17) (eqb k 19) e19, or-no-r (eqb k 16 || eqb k 17 || eqb k 19) (eqb k 20) e20, or-no-r (eqb k 16 || eqb k 17 || eqb k 19 || eqb k 20) (eqb k 21) e)
 
-  judged-by : judgedBy (d .t) (d .ballot) (d .phase) (d .pieces) (touched d) counts m ≡ inOrder
-  judged-by = by-code (eqb (m .code) Done) (driveTakes (m .code)) refl refl
+  judged-by : Judged
+  judged-by =
+      ⊎-elim
+      (λ taken. by-taken (λ k. m .code ≡ k → Judged) at-16 at-17 at-19 at-20 at-21 (m .code) taken refl)
+      (λ other. not-judged other ∙ strange other)
+      (true-or-false (driveTakes (m .code)))
 
   -- of a drive in form the word has the shards that it touches
   by-form : (b : Bool) → formed d ≡ b → firstOf b (judgedBy (d .t) (d .ballot) (d .phase) (d .pieces) (touchedBy (d .pieces)) counts m) ≡ (13 if not b else inOrder)
@@ -136,7 +147,7 @@ taken-touched d m e = kept-word (d .pieces) (formed-parts d (not-no (formed d) (
 -- a server's reply has a server
 has-server : (k : ℕ) → driveTakes k ≡ true → eqb k Done ≡ false → shapeOf k .server ≡ true
 unfolding shapeOf
-has-server = served (λ k. shapeOf k .server ≡ true) refl refl refl refl
+has-server = by-taken (λ k. eqb k Done ≡ false → shapeOf k .server ≡ true) (λ e. refl) (λ e. refl) (λ e. refl) (λ e. absurd (true-and-false refl e)) (λ e. refl)
 
 second-no : (a b c d e f : Bool) → (a || b || c || d || e || f) ≡ false → b ≡ false
 second-no a b c d e f h =

@@ -1,14 +1,13 @@
 -- What a reply makes of a drive, for each way that the step ends. Assumes nothing.
-use mathlib.Core.Path.{_≡_, refl, sym, ap, _∙_}
-use mathlib.Core.Bool.{Bool, true, false}
+use mathlib.Core.Path.{_≡_}
+use mathlib.Core.Bool.{true, false}
 use Prim.Native.Nat.{ℕ}
 use lib.Dec.{eqb}
 use Rattle.wire.specs.declared.Message.{Message}
 use Rattle.wire.specs.Codes.{Done, Behind}
 use Rattle.drive.specs.declared.Drive.{Drive}
-use Rattle.drive.specs.declared.Moved.{Moved}
 use Rattle.drive.specs.Held.{toPhase, withAnswer, withPromise}
-use Rattle.drive.specs.Decide.{decided, decide}
+use Rattle.drive.specs.Decide.{decided}
 use Rattle.drive.specs.Hear.{answerOf, settle, count, heard, refusal, refused, moved, hear}
 use Rattle.drive_decide.specs.Turns.{turned, turnOf}
 use Rattle.drive_decide.proofs.Turning.{turned-decide}

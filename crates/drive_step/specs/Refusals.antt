@@ -1,7 +1,7 @@
--- What is wrong with a reply at a drive, over the fields that it looks at, by what kind of reply it is: a server's, Done, or none that a drive takes. A server's has no pieces, and Done has neither server nor ballot.
--- After 13 they are the order of `drive`, by the laws of proofs/InOrder.
+-- What is wrong with a reply at a drive, over the fields that it looks at, by its code. A server's reply has no pieces, and Done has neither server nor ballot.
+-- After 13 this is the order of `drive`, by the laws of proofs/InOrder.
 use Prim.Native.Nat.{ℕ}
-use mathlib.Core.Bool.{Bool, not, _&&_, _||_}
+use mathlib.Core.Bool.{Bool, false, not, _&&_, _||_}
 use lib.Dec.{eqb}
 use Rattle.masks.specs.Bits.{has}
 use Rattle.rules.specs.Choice.{_if_else_}
@@ -10,45 +10,30 @@ use Rattle.rules.specs.Cluster.{badNumber, badServer}
 use Rattle.rules.specs.Ballots.{badBallot}
 use Rattle.rules.specs.Pieces.{tooMany, piecesKept, samePieces}
 use Rattle.rules.specs.Sets.{badSet}
+use Rattle.rules.specs.declared.MaybeVote.{MaybeVote}
+use Rattle.rules.specs.declared.MaybeWord.{MaybeWord}
 use Rattle.rules.specs.declared.Pieces.{Pieces}
 use Rattle.rules.specs.declared.Set.{Set}
 use Rattle.wire.specs.declared.Message.{Message}
-use Rattle.wire.specs.Codes.{driveTakes, oks, PreAcceptOK, PrepareOK, Done, Behind}
+use Rattle.wire.specs.Codes.{PreAcceptOK, AcceptOK, PrepareOK, Done, Behind}
 use Rattle.drive.specs.Held.{addressed}
-use Rattle.drive.specs.Hear.{otherPhase}
 
--- ---- a server's reply
+-- ---- a reply of the server s, for the number u at the ballot b
 
 -- 1
-unfoldable pub badHead : Message → Bool
-badHead m =
-    badNumber (m .t)
-    || badServer (m .server)
-    || badBallot (m .ballot)
-    || (eqb (m .code) Behind && badBallot (m .promise))
-    || (eqb (m .code) PrepareOK && there (m .accepted .some) && badBallot (m .accepted .ballot))
+unfoldable pub badHead : (u s b : ℕ) → Bool
+badHead u s b = badNumber u || badServer s || badBallot b
 
--- 8, where w has the servers that are counted
-unfoldable pub elsewhere : (t ballot phase touched w : ℕ) → Message → Bool
-elsewhere t ballot phase touched w m =
-    otherPhase phase m
-    || not (eqb (m .t) t)
-    || not (eqb (m .ballot) ballot)
-    || not (addressed touched (m .server))
-    || (oks (m .code) && has w (m .server))
+-- 8, but for the phase and who is counted
+unfoldable pub elsewhere : (t ballot touched u s b : ℕ) → Bool
+elsewhere t ballot touched u s b = not (eqb u t) || not (eqb b ballot) || not (addressed touched s)
 
--- 3
-unfoldable pub badHeld : (touched : ℕ) → Message → Bool
-badHeld touched m =
-    (there (m .arrival .some) && has (m .arrival .word) (m .t)) || (there (m .accepted .some) && badSet (m .t) touched (m .accepted .set)) if eqb (m .code) PrepareOK
-    else eqb (m .code) PreAcceptOK && has (m .word) (m .t)
+-- 3 of a PrepareOK
+unfoldable pub badHeld : (touched u : ℕ) → MaybeWord → MaybeVote → Bool
+badHeld touched u a v = (there (a .some) && has (a .word) u) || (there (v .some) && badSet u touched (v .set))
 
-unfoldable pub answerBy : (t ballot phase touched w : ℕ) → Message → ℕ
-answerBy t ballot phase touched w m =
-    1 if badHead m
-    else 8 if elsewhere t ballot phase touched w m
-    else 3 if badHeld touched m
-    else 0
+unfoldable pub firstOfThree : (one eight three : Bool) → ℕ
+firstOfThree one eight three = 1 if one else 8 if eight else 3 if three else 0
 
 -- ---- Done, for the number u with these pieces and this set
 
@@ -62,13 +47,26 @@ doneBy t phase ps touched u others v =
     else 3 if badSet u touched v
     else 0
 
--- ---- any code
+-- ---- any code, where w has the servers that are counted
 
-unfoldable pub judgedBy : (t ballot phase : ℕ) → Pieces → (touched w : ℕ) → Message → ℕ
-judgedBy t ballot phase ps touched w m =
-    doneBy t phase ps touched (m .t) (m .pieces) (m .set) if eqb (m .code) Done
-    else answerBy t ballot phase touched w m if driveTakes (m .code)
-    else 12
+module _ (t ballot phase : ℕ) (ps : Pieces) (touched w : ℕ) (m : Message) where
+  abbrev head : Bool
+  head = badHead (m .t) (m .server) (m .ballot)
+
+  abbrev away : Bool
+  away = elsewhere t ballot touched (m .t) (m .server) (m .ballot)
+
+  abbrev again : Bool
+  again = has w (m .server)
+
+  unfoldable pub judgedBy : ℕ
+  judgedBy =
+      firstOfThree head (not (eqb phase 1) || away || again) (has (m .word) (m .t)) if eqb (m .code) PreAcceptOK
+      else firstOfThree head (not (eqb phase 2) || away || again) false if eqb (m .code) AcceptOK
+      else firstOfThree (head || (there (m .accepted .some) && badBallot (m .accepted .ballot))) (not (eqb phase 0) || away || again) (badHeld touched (m .t) (m .arrival) (m .accepted)) if eqb (m .code) PrepareOK
+      else firstOfThree (head || badBallot (m .promise)) (eqb phase 3 || away) false if eqb (m .code) Behind
+      else doneBy t phase ps touched (m .t) (m .pieces) (m .set) if eqb (m .code) Done
+      else 12
 
 -- 13 before all of them
 unfoldable pub firstOf : (formed : Bool) (judged : ℕ) → ℕ

@@ -1,14 +1,14 @@
-// Which refusal a reply gets: the first test that fires gives its number, 0 is none. A server's reply, Done and any other code have tests of their own.
+// Which refusal a reply gets: the first test that fires gives its number, 0 is none. Each code has the tests of the fields that it has.
 ghost use mathlib.Core.Path.{_≡_};
-ghost use Rattle.drive.specs.Hear.{otherPhase};
-ghost use Rattle.drive_step.specs.Refusals.{badHead, elsewhere, badHeld, answerBy, doneBy, judgedBy, firstOf};
+ghost use Rattle.drive_step.specs.Refusals.{badHead, elsewhere, badHeld, firstOfThree, doneBy, judgedBy, firstOf};
 use drive_form::answers::addressed;
 use messages::codes::ACCEPT_OK;
 use messages::codes::BEHIND;
 use messages::codes::DONE;
 use messages::codes::PRE_ACCEPT_OK;
 use messages::codes::PREPARE_OK;
-use messages::codes::drive_takes;
+use rules::MaybeVote;
+use rules::MaybeWord;
 use rules::Pieces;
 use rules::Set;
 use rules::ballots::bad_ballot;
@@ -20,78 +20,43 @@ use rules::transaction::same_pieces;
 use rules::transaction::too_many;
 use wire::Message;
 
-// 8, by phase: an OK belongs to one phase, Done and Behind to any but 3.
-fn other_phase(phase: u32, m: Message) -> bool
-    ensures { λ r. ⌜ r ≡ otherPhase phase m ⌝ }
+// 1 of a server's reply: a number, server or ballot out of its range.
+fn bad_head(u: u32, server: u32, b: u32) -> bool
+    ensures { λ r. ⌜ r ≡ badHead u server b ⌝ }
 {
-    let prepared = m.code == PREPARE_OK;
-    let arrived = m.code == PRE_ACCEPT_OK;
-    let accepted = m.code == ACCEPT_OK;
-    if prepared {
-        return !(phase == 0);
-    }
-    if arrived {
-        return !(phase == 1);
-    }
-    if accepted {
-        return !(phase == 2);
-    }
-    phase == 3
+    bad_number(u) | bad_server(server) | bad_ballot(b)
 }
 
-// 1 of a server's reply: a number, server, ballot or promise out of its range.
-fn bad_head(m: Message) -> bool
-    ensures { λ r. ⌜ r ≡ badHead m ⌝ }
+// 8 of a server's reply: another number or ballot, or a server that is not one of the touched shards.
+fn elsewhere(t: u32, ballot: u32, shards: u64, u: u32, server: u32, b: u32) -> bool
+    ensures { λ r. ⌜ r ≡ elsewhere t ballot shards u server b ⌝ }
 {
-    bad_number(m.t)
-        | bad_server(m.server)
-        | bad_ballot(m.ballot)
-        | ((m.code == BEHIND) & bad_ballot(m.promise))
-        | ((m.code == PREPARE_OK) & (m.accepted.some != 0) & bad_ballot(m.accepted.ballot))
+    !(u == t) | !(b == ballot) | !addressed(shards, server)
 }
 
-// 8 of a server's reply: another phase, number or ballot, or a server that is not one of the touched shards, or is counted; Behind may come from a counted one.
-fn elsewhere(t: u32, ballot: u32, phase: u32, shards: u64, answered: u64, m: Message) -> bool
-    ensures { λ r. ⌜ r ≡ elsewhere t ballot phase shards answered m ⌝ }
+// 3 of a PrepareOK: an arrival word or an accepted set that breaks its rule.
+fn bad_held(shards: u64, u: u32, arrival: MaybeWord, accepted: MaybeVote) -> bool
+    ensures { λ r. ⌜ r ≡ badHeld shards u arrival accepted ⌝ }
 {
-    let ok = (m.code == PRE_ACCEPT_OK) | (m.code == ACCEPT_OK) | (m.code == PREPARE_OK);
-    other_phase(phase, m)
-        | !(m.t == t)
-        | !(m.ballot == ballot)
-        | !addressed(shards, m.server)
-        | (ok & masks::has(answered, m.server as usize))
-}
-
-// 3 of a server's reply: an arrival word or an accepted set that breaks its rule.
-fn bad_held(shards: u64, m: Message) -> bool
-    ensures { λ r. ⌜ r ≡ badHeld shards m ⌝ }
-{
-    let prepared = m.code == PREPARE_OK;
-    let voted = m.accepted.some != 0;
-    if prepared {
-        let own = (m.arrival.some != 0) & masks::has(m.arrival.word, m.t as usize);
-        if voted {
-            return own | bad_set(m.t, shards, m.accepted.set);
-        }
-        return own;
+    let own = (arrival.some != 0) & masks::has(arrival.word, u as usize);
+    let voted = accepted.some != 0;
+    if voted {
+        return own | bad_set(u, shards, accepted.set);
     }
-    (m.code == PRE_ACCEPT_OK) & masks::has(m.word, m.t as usize)
+    own
 }
 
-// What is wrong with a server's reply: 1, 8, 3.
-fn answer_refusal(t: u32, ballot: u32, phase: u32, shards: u64, answered: u64, m: Message) -> u32
-    ensures { λ r. ⌜ r ≡ answerBy t ballot phase shards answered m ⌝ }
+// 1, 8, 3 in this order.
+fn first(one: bool, eight: bool, three: bool) -> u32
+    ensures { λ r. ⌜ r ≡ firstOfThree one eight three ⌝ }
 {
-    let numbers = bad_head(m);
-    let away = elsewhere(t, ballot, phase, shards, answered, m);
-    let held = bad_held(shards, m);
-    if numbers {
+    if one {
         return 1;
     }
-    if away {
+    if eight {
         return 8;
     }
-    if held {
+    if three {
         return 3;
     }
     0
@@ -136,7 +101,7 @@ fn done_refusal(
     0
 }
 
-// What is wrong with a reply at this drive.
+// What is wrong with a reply at this drive, by its code: an OK belongs to one phase, and its server is not counted yet; Behind and Done belong to any phase but 3, and Behind may come from a counted server.
 pub fn judge(
     t: u32,
     ballot: u32,
@@ -148,13 +113,31 @@ pub fn judge(
 ) -> u32
     ensures { λ r. ⌜ r ≡ judgedBy t ballot phase pieces shards answered m ⌝ }
 {
+    let arrived = m.code == PRE_ACCEPT_OK;
+    let accepted = m.code == ACCEPT_OK;
+    let prepared = m.code == PREPARE_OK;
+    let behind = m.code == BEHIND;
     let done = m.code == DONE;
-    let taken = drive_takes(m.code);
+    let head = bad_head(m.t, m.server, m.ballot);
+    let away = elsewhere(t, ballot, shards, m.t, m.server, m.ballot);
+    let again = masks::has(answered, m.server as usize);
+    if arrived {
+        let own = masks::has(m.word, m.t as usize);
+        return first(head, !(phase == 1) | away | again, own);
+    }
+    if accepted {
+        return first(head, !(phase == 2) | away | again, false);
+    }
+    if prepared {
+        let vote = (m.accepted.some != 0) & bad_ballot(m.accepted.ballot);
+        let held = bad_held(shards, m.t, m.arrival, m.accepted);
+        return first(head | vote, !(phase == 0) | away | again, held);
+    }
+    if behind {
+        return first(head | bad_ballot(m.promise), (phase == 3) | away, false);
+    }
     if done {
         return done_refusal(t, phase, pieces, shards, m.t, m.pieces, m.set);
-    }
-    if taken {
-        return answer_refusal(t, ballot, phase, shards, answered, m);
     }
     12
 }

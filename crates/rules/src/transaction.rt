@@ -170,6 +170,10 @@ pub fn same_piece(p: Piece, q: Piece) -> bool
 pub fn same_pieces(a: Pieces, b: Pieces) -> bool
     ensures { λ r. ⌜ r ≡ samePieces a b ⌝ }
 {
+    let unequal = a.count != b.count;
+    if unequal {
+        return false;
+    }
     let n = a.count as usize;
     let mut same = true;
     let mut i: usize = 0;
@@ -179,5 +183,5 @@ pub fn same_pieces(a: Pieces, b: Pieces) -> bool
         same = same & ((n <= i) | same_piece(p, q));
         i += 1;
     }
-    (a.count == b.count) & same
+    same
 }

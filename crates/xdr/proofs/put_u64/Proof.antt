@@ -1,48 +1,58 @@
--- The upper word is written, and then the lower in the tail after it. Assumes nothing.
-use mathlib.Core.Path.{refl}
-use Rattle.xdr.specs.Word.{be-add, be-length}
-use Rattle.xdr.specs.Over.{put-next}
+-- The bytes of a number, the highest first, are those of its two words turned and changed about, the lowest first. Assumes nothing.
+use mathlib.Core.Path.{_∙_}
+use Rattle.xdr.specs.Word.{be-turned-8}
 use borrow.Author.Needs.{needs}
 use Rattle.xdr.proofs.put_u64.Statement.{statement}
 use Rattle.xdr.proofs.put_u64.Tie as tie
 
-cast-put-u32 : tie.Need-cast-put-u32
-cast-put-u32 c = search needs
+cast-turned : tie.Need-cast-turned
+cast-turned c = search needs
 
-put-u32-requires : tie.Need-put-u32-requires
-put-u32-requires c κs = search needs
+turned-requires : tie.Need-turned-requires
+turned-requires c κs = search needs
 
-sub-put-u32 : tie.Need-sub-put-u32
-sub-put-u32 c = search needs
+wide64-requires : tie.Need-wide64-requires
+wide64-requires c κs = search needs
 
-part-put-u32-start : tie.Need-part-put-u32-start
-part-put-u32-start c = search needs
+cast-turned-2 : tie.Need-cast-turned-2
+cast-turned-2 c = search needs
 
-part-put-u32-end : tie.Need-part-put-u32-end
-part-put-u32-end c = search needs
+turned-requires-2 : tie.Need-turned-requires-2
+turned-requires-2 c κs = search needs
 
-cast-put-u32-2 : tie.Need-cast-put-u32-2
-cast-put-u32-2 c = search needs
+wide64-requires-2 : tie.Need-wide64-requires-2
+wide64-requires-2 c κs = search needs
 
-put-u32-requires-2 : tie.Need-put-u32-requires-2
-put-u32-requires-2 c κs = search needs
+mul-put-low-first-8 : tie.Need-mul-put-low-first-8
+mul-put-low-first-8 c = search needs
+
+add-put-low-first-8 : tie.Need-add-put-low-first-8
+add-put-low-first-8 c = search needs
+
+put-low-first-8-requires : tie.Need-put-low-first-8-requires
+put-low-first-8-requires c κs = search needs
 
 same-length : tie.Need-same-length
 same-length c = search needs
 
 returns : tie.Need-returns
-returns c = rw (be-add 4 4) (put-next _ _ _ 4 _ (c .before .before .before .before .before .before .put-u32 .ensures) (c .before .before .put-u322 .ensures) refl (be-length 4 _))
+returns c =
+    let hi = c .before .before .before .before .before .before .wide64 .ensures .0 ∙ c .before .before .before .before .before .before .before .turned .ensures in
+    let lo = c .before .before .before .before .wide642 .ensures .0 ∙ c .before .before .before .before .before .turned2 .ensures in
+    rw (be-turned-8 _ (c .before .before .before .before .before .before .before .before .before .fits .v .fits), ← hi, ← lo) (c .before .before .put-low-first-8 .ensures)
 
 pub put-u64-spec : {M : Type 1} → statement M
 put-u64-spec =
     tie.close
     (tie.spec
-    cast-put-u32
-    put-u32-requires
-    sub-put-u32
-    part-put-u32-start
-    part-put-u32-end
-    cast-put-u32-2
-    put-u32-requires-2
+    cast-turned
+    turned-requires
+    wide64-requires
+    cast-turned-2
+    turned-requires-2
+    wide64-requires-2
+    mul-put-low-first-8
+    add-put-low-first-8
+    put-low-first-8-requires
     same-length
     returns)

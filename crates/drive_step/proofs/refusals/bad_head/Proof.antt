@@ -13,23 +13,10 @@ bad-server-requires c κs = search needs
 bad-ballot-requires : tie.Need-bad-ballot-requires
 bad-ballot-requires c κs = search needs
 
-bad-ballot-requires-2 : tie.Need-bad-ballot-requires-2
-bad-ballot-requires-2 c κs = search needs
-
-bad-ballot-requires-3 : tie.Need-bad-ballot-requires-3
-bad-ballot-requires-3 c κs = search needs
-
 returns : tie.Need-returns
 unfolding badHead
-returns c = rw (c .bad-ballot3 .ensures, c .before .before .before .bad-ballot2 .ensures, c .before .before .before .before .before .bad-ballot .ensures, c .before .before .before .before .before .before .bad-server .ensures, c .before .before .before .before .before .before .before .bad-number .ensures)
+returns c = rw (c .bad-ballot .ensures, c .before .bad-server .ensures, c .before .before .bad-number .ensures)
 
 pub bad-head-spec : {M : Type 1} → statement M
 bad-head-spec =
-    tie.close
-    (tie.spec
-    bad-number-requires
-    bad-server-requires
-    bad-ballot-requires
-    bad-ballot-requires-2
-    bad-ballot-requires-3
-    returns)
+    tie.close (tie.spec bad-number-requires bad-server-requires bad-ballot-requires returns)

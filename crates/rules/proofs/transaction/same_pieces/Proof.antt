@@ -2,7 +2,9 @@
 use Prim.Native.Nat.{_-_, _≤_}
 use mathlib.Core.Path.{_≡_}
 use native.Mathlib.Omega.{arith}
+use lib.Dec.{eqb}
 use Rattle.masks.specs.Folds.{allBelow}
+use Rattle.masks.proofs.Bools.{not-yes, not-no}
 use Rattle.masks.proofs.Turns.{all-none, all-step}
 use Rattle.rules.specs.Pieces.{sameEntry, samePieces}
 use borrow.Author.Needs.{needs}
@@ -10,10 +12,14 @@ use Rattle.rules.proofs.transaction.same_pieces.Statement.{statement}
 use Rattle.rules.proofs.transaction.same_pieces.Tie as tie
 
 abbrev Inv-loop : tie.InvT-loop
-Inv-loop a b n same₀ i₀ same i = (i ≤ 8) × (same ≡ allBelow (sameEntry a b) i)
+Inv-loop a b unequal n same₀ i₀ same i = (i ≤ 8) × (same ≡ allBelow (sameEntry a b) i)
 
 abbrev μ-loop : tie.MeasureT-loop
-μ-loop a b n same₀ i₀ same i = 8 - i
+μ-loop a b unequal n same₀ i₀ same i = 8 - i
+
+returns : tie.Need-returns Inv-loop μ-loop
+unfolding samePieces
+returns c = rw (not-yes (eqb (c .before .args .t1 .count) (c .before .args .t2 .count)) (c .if1 .taken))
 
 cast-n : tie.Need-cast-n Inv-loop μ-loop
 cast-n c = search needs
@@ -46,9 +52,13 @@ loop-again : tie.Need-loop-again Inv-loop μ-loop
 unfolding sameEntry
 loop-again c = (search needs, rw all-step (cc))
 
-returns : tie.Need-returns Inv-loop μ-loop
+returns-2 : tie.Need-returns-2 Inv-loop μ-loop
 unfolding samePieces
-returns c = let e : c .before .loop .i ≡ 8 = omega arith in cc
+returns-2 c =
+    let start = c .before .before .before in
+    let equal = not-no (eqb (start .args .t1 .count) (start .args .t2 .count)) (c .before .before .if1 .left) in
+    let e : c .before .loop .i ≡ 8 = omega arith in
+    rw (equal, c .before .loop .inv .1, e)
 
 pub same-pieces-spec : {M : Type 1} → statement M
 same-pieces-spec =
@@ -56,6 +66,7 @@ same-pieces-spec =
     (tie.spec
     Inv-loop
     μ-loop
+    returns
     cast-n
     loop-holds
     mul-p
@@ -66,4 +77,4 @@ same-pieces-spec =
     add-i
     loop-less
     loop-again
-    returns)
+    returns-2)
