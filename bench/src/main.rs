@@ -26,21 +26,22 @@ fn main() {
         for step in &steps(held, many) {
             let name = format!("{}, {held} held, {many} pieces each", step.name);
             let goal = if held == 64 { Some(2.0) } else { None };
-            compare(&name, goal, take(meter, Archive, &name, step), take(meter, Plain, &name, step));
+            compare(meter, &name, goal, || take(meter, Archive, &name, step), || take(meter, Plain, &name, step));
         }
     }
     head("Running", "Rust");
     for (name, goal, before, all) in
         [("run, 64 in one cycle", Some(0.5), cycle(), false), ("run until 0, a chain of 64", None, chain(), true)]
     {
-        compare(name, goal, run(meter, Archive, name, &before, all), run(meter, Plain, name, &before, all));
+        let library = || run(meter, Archive, name, &before, all);
+        compare(meter, name, goal, library, || run(meter, Plain, name, &before, all));
     }
     head("A drive's reply step", "Rust");
     for (answers, what, many) in [(0, "first", 2), (5, "last", 2), (0, "first", 8), (5, "last", 8)] {
         let name = format!("PreAcceptOK, {what} of six, {many} pieces");
         let (before, message) = awaiting(answers, many);
-        let library = reply(meter, Archive, &name, &before, &message);
-        compare(&name, Some(1.5), library, reply(meter, Plain, &name, &before, &message));
+        let library = || reply(meter, Archive, &name, &before, &message);
+        compare(meter, &name, Some(1.5), library, || reply(meter, Plain, &name, &before, &message));
     }
     let server = chain();
     let copy = |to: &mut layout::Server| unsafe { std::ptr::copy_nonoverlapping(black_box(&server), black_box(to), 1) };
@@ -53,9 +54,19 @@ fn main() {
 }
 
 /// A line for a call that must leave the same behind in both.
-fn compare<T: PartialEq>(name: &str, goal: Option<f64>, library: (Cost, T), rust: (Cost, T)) {
-    assert!(library.1 == rust.1, "{name}: the two differ");
-    line(name, library.0, rust.0, goal);
+fn compare<T: PartialEq>(
+    meter: &Meter,
+    name: &str,
+    goal: Option<f64>,
+    library: impl Fn() -> (Cost, T),
+    rust: impl Fn() -> (Cost, T),
+) {
+    let ((mut ours, left), (mut theirs, left_too)) = (library(), rust());
+    assert!(left == left_too, "{name}: the two differ");
+    for _ in meter.more_rounds() {
+        (ours, theirs) = (ours.least(library().0), theirs.least(rust().0));
+    }
+    line(name, ours, theirs, goal);
 }
 
 /// The cost of a call on a lent server, and the server after.

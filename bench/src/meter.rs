@@ -23,7 +23,15 @@ pub struct Meter {
     clock: f64,
 }
 
-const TRIED_FOR: Duration = Duration::from_millis(250);
+/// How long a call is tried in a round, and how many rounds there are. What is compared takes turns, so that a slow moment of the machine meets all of it.
+const TRIED_FOR: Duration = Duration::from_millis(50);
+const ROUNDS: u32 = 5;
+
+impl Cost {
+    pub fn least(self, other: Cost) -> Cost {
+        Cost { nanoseconds: self.nanoseconds.min(other.nanoseconds), ..self }
+    }
+}
 
 impl Meter {
     /// Counts if there is no folder of counts to be read.
@@ -32,6 +40,11 @@ impl Meter {
         meter.counts = folder.map_or_else(HashMap::new, |folder| read_counts(&folder));
         meter.clock = meter.of("nothing", 1, &(), |_| ()).0.nanoseconds;
         meter
+    }
+
+    /// The rounds after the first; a count needs none.
+    pub fn more_rounds(&self) -> std::ops::Range<u32> {
+        1..if self.counting { 1 } else { ROUNDS }
     }
 
     /// The cost of one call, and the state that it leaves. Each try is on the state of before and makes the call so many times.

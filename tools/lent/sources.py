@@ -68,6 +68,17 @@ class Number:
         return []
 
 
+class Truth:
+    """A bool."""
+    type, row = 'Bool', 'Boolean'
+
+    def typed(self, x, known):
+        return f'bool-lawful 𝓤 H A W .typed {x} _ {known} .0'
+
+    def uses(self):
+        return []
+
+
 def kind_of(name, short):
     return Number('u32', 'w32') if name == 'u32' else Struct(name, 'station', short)
 
@@ -131,6 +142,19 @@ class Element:
         # the laws of what is stored, in the crate of the work: what is told is what the contract says, the place is within the array, and the state with the element there is the one that the contract says
         law = hyphens(work.path.split('::')[-1])
         self.laws, self.told, self.below, self.left = f'Rattle.{work.crate}.proofs.Stored', f'{law}-told', f'{law}-below', f'{law}-left'
+
+
+class Choice:
+    """The three ways of a function with branches, and the number that it stores beside the element."""
+
+    def __init__(self, f, state, field, element):
+        fields, home = fields_of(state.type, state.home)
+        self.field, self.number = field, element.fields.index(field)
+        self.start = starts_of(fields, home)[self.number]
+        self.contract = Callee(f'{f.crate}::{f.path}', 'own')
+        # the laws of what is left, one for each way
+        law = element.told[:-len('told')]
+        self.refused, self.turned, self.kept = f'{law}refused', f'{law}turned', f'{law}kept'
 
 
 class Parameter:
@@ -249,16 +273,23 @@ class Thin:
         self.work = Callee(calls[0], 'work')
         self.given = [self.s] + [p.given for p in self.others]
         self.callees = [self.work]
-        self.element, self.asked = None, []
+        self.element, self.choice, self.asked = None, None, []
         if self.changes:
             self.outcome = Struct(self.work.answer, self.work.crate, 'O')
             stored = re.search(rf'\b{self.s}\.(\w+)\[\w+\] = ', body)
             self.element = Element(self.state, stored.group(1), self.work) if stored else None
-            kinds = [('tell', self.answer)] + [('spot', Number('usize', 'w64'))] * bool(stored) + [('leave', self.element.struct if stored else self.state)]
+            number = re.search(rf'\b{self.s}\.(\w+) = ', body)
+            self.choice = Choice(f, self.state, number.group(1), self.element) if stored and number else None
+            ways = [('refuse', Truth()), ('turn', Truth()), ('next', self.state)] if self.choice else []
+            kinds = [('tell', self.answer)] + ways + [('spot', Number('usize', 'w64'))] * bool(stored) + [('leave', self.element.struct if stored else self.state)] + [('mark', Number('u32', 'w32'))] * bool(self.choice)
             # the functions that tell the parts of the outcome, each with what it answers
             self.asked = [(Callee(path, alias), kind) for path, (alias, kind) in zip(calls[1:], kinds)]
             self.tell, self.leave = self.asked[0][0], self.asked[-1][0]
             self.callees += [callee for callee, _ in self.asked]
+
+    def part(self, alias):
+        """The function of this alias, that tells a part of the outcome, and what it answers."""
+        return next((callee, kind) for callee, kind in self.asked if callee.alias == alias)
 
 
 def lent_functions():

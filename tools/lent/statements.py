@@ -67,19 +67,50 @@ def opening(t):
 
 def storing(t):
     """Of a function that stores one element: the state with any element at any place, the two at hand, that the place is within the array, and what the state with the element owes."""
+    if t.choice:
+        return storing_two(t)
     e, s = t.element, t.s
     spot, leave = (callee.says(0, ['outcome']) for callee, _ in t.asked[1:])
     fields = '; '.join(f'{x} = set ({s} .{x}) i x' if x == e.field else f'{x} = {s} .{x}' for x in e.fields)
-    had = [f'had{place(j)}' for j in range(e.number)] + [f'put-in E.the-field E′.the-field-laws {e.many} ({s} .{e.field}) i x u (had{place(e.number)}) is']
+    had = [f'had{place(j)}' for j in range(e.number)] + [put_in(t)]
     rest = 'had' + ' .1' * (e.number + 1)
     return [f'  -- the {t.state.type} with x at i, and what is stored',
             f'  abbrev storing : ℕ → {e.struct.type} → {t.state.type}', f'  storing i x = record {{ {fields} }}', '',
             f'  abbrev stored : {t.state.type}', f'  stored = storing ({spot}) ({leave})', '',
-            f'  below : (i : ℕ) → i ≡ {spot} → i < {e.many}',
-            f'  below i e = subst (λ (n : ℕ). n < {e.many}) (sym e) ({e.below} {" ".join(t.given)})', '',
+            *within(t, spot),
             f'  made : (i : ℕ) (x : {e.struct.type}) (u : Val) → Is T.the-row {s} (vals {s}) → Is {e.struct.row} x (u ∷ []) → Is T.the-row (storing i x) (vals (storing i x))',
             '  made i x u was is =', f'      let had = LL.owed T.the-type T′.the-laws {s} (vals {s}) was in',
             f'      LL.owes T.the-type T′.the-laws (storing i x) ({", (".join(had)}, {rest}{")" * len(had)}', '']
+
+
+def put_in(t):
+    """What the array with x at i owes."""
+    e = t.element
+    return f'put-in E.the-field E′.the-field-laws {e.many} ({t.s} .{e.field}) i x u (had{place(e.number)}) is'
+
+
+def within(t, spot):
+    e = t.element
+    return [f'  below : (i : ℕ) → i ≡ {spot} → i < {e.many}', f'  below i e = subst (λ (n : ℕ). n < {e.many}) (sym e) ({e.below} {" ".join(t.given)})', '']
+
+
+def storing_two(t):
+    """Of a function that stores one element and one number, or the whole state, or nothing: the state with any element at any place and any number, what is left by the contract, that the place is within the array, what the state with the two owes, and that it is what is left."""
+    e, c, s = t.element, t.choice, t.s
+    spot, leave, mark = (t.part(x)[0].says(0, ['outcome']) for x in ('spot', 'leave', 'mark'))
+    fields = '; '.join(f'{x} = set ({s} .{x}) i x' if x == e.field else f'{x} = y' if x == c.field else f'{x} = {s} .{x}' for x in e.fields)
+    new = {e.number: put_in(t), c.number: '(refl, number .1)'}
+    had = [new.get(j, f'had{place(j)}') for j in range(len(e.fields))]
+    refused, turns = (t.part(x)[0].says(0, ['outcome']) for x in ('refuse', 'turn'))
+    given = ' '.join(t.given)
+    return [f'  -- the {t.state.type} with x at i and y as its {c.field}, and what is left',
+            f'  abbrev storing : ℕ → {e.struct.type} → ℕ → {t.state.type}', f'  storing i x y = record {{ {fields} }}', '',
+            f'  abbrev stored : {t.state.type}', f'  stored = {c.contract.says(1, t.given)}', '', *within(t, spot),
+            f'  made : (i : ℕ) (x : {e.struct.type}) (u : Val) (y : ℕ) (w : Val) → Is T.the-row {s} (vals {s}) → Is {e.struct.row} x (u ∷ []) → Is u32 y (w ∷ []) → Is T.the-row (storing i x y) (vals (storing i x y))',
+            '  made i x u y w was is number =', f'      let had = LL.owed T.the-type T′.the-laws {s} (vals {s}) was in',
+            f'      LL.owes T.the-type T′.the-laws (storing i x y) ({", (".join(had)}, tt{")" * len(had)}', '',
+            f'  keeps : (i : ℕ) (x : {e.struct.type}) (y : ℕ) → i ≡ {spot} → x ≡ {leave} → y ≡ {mark} → {refused} ≡ false → {turns} ≡ false → storing i x y ≡ stored',
+            f'  keeps i x y e₁ e₂ e₃ taken stays = rw (e₁, e₂, e₃) ({c.kept} {given} taken stays)', '']
 
 
 def exits(t):
@@ -97,7 +128,7 @@ def exits(t):
         knows += [f'zs ≡ bytes → length zs ≡ length ({written.name} .now)']
     knows += [f'Is {t.answer.row} k (v ∷ [])']
     facts = ['e₁'] + ['e₂'] * t.changes + ['e₃'] * bool(written)
-    laws = {'e₁': t.element.told, 'e₂': t.element.left} if t.element else {}
+    laws = {'e₁': t.element.told} if t.choice else {'e₁': t.element.told, 'e₂': t.element.left} if t.element else {}
     shown = [f'{e} ∙ {laws[e]} {" ".join(t.given)}' if e in laws else e for e in facts]
     said = shown[0] if len(shown) == 1 else f'({", ".join(shown)})'
     last = nest((['r'] if t.changes else ['tt']) + ['zs' if p.written else 'tt' for p in t.others])
@@ -129,7 +160,7 @@ def goings(t):
 
 def closing(t):
     """From the walk to the contract."""
-    callees = [(callee, callee.contract, f'k{n}') for callee, n in zip(t.callees, '₁₂₃₄')]
+    callees = [(callee, callee.contract, f'k{n}') for callee, n in zip(t.callees, '₁₂₃₄₅₆₇₈')]
     known = ' → '.join(f'Triple 𝓤 (C #{c.key}) ({name} 𝓤 H A at-mem runs)' for c, name, _ in callees)
     ks = ' '.join(k for _, _, k in callees)
     many = t.lifetimes

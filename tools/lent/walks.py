@@ -16,6 +16,12 @@ class Places:
         m, output = len(t.others), t.output is not None
         self.outcome, self.told, self.spot, self.left = m + 2, m + 3, m + 4, m + 5
         self.copy = m + (6 if t.element else 4 if t.changes else 2)
+        if t.choice:
+            # the two tests, the next state, the place, the element, the number, the copy, and the test that the machine makes
+            self.refused, self.turns, self.next, self.spot, self.left, self.mark, self.copy, self.test = (m + 4 + i for i in range(8))
+            self.before, self.array, self.item = (m + 12 + i for i in range(3))
+            self.many = m + 15
+            return
         self.pointer, self.slice = self.copy + 1, self.copy + 2
         # of an element: how many bytes before it, where the array begins, and where it begins
         self.before, self.array, self.item = (self.copy + 2 * output + i for i in (1, 2, 3))
@@ -72,10 +78,11 @@ def worked(t, result, kind, said):
             f'        split ! $ move ! (1 ∷ []) $ use1 W (some (λ (zs : {zs}). ‵ (lasts work.ended {κs} ({t.s}, a .1) zs) ⊛ raw (fact 𝓤 ({said})))) (id⊢ 𝓤 _) $ pick ! (λ zs. split ! $ move ! (1 ∷ []) $ heard ! ({said}) (λ e₁.']
 
 
-def leaving(places, base):
-    """The result is returned, and every local is freed."""
+def leaving(places, base, unset=(), within=False):
+    """The result is returned, within a branch or at the end, and every local is freed. Those that are unset have no value to forget."""
     at, many = places.at, places.many
-    return [f'        returns ! (look ! {at(0, base)} refl) $ ' + ' $ '.join(f'forget ! {at(i, base)} refl' for i in reversed(range(many))) + ' $',
+    returns = 'returns-within ! Post refl' if within else 'returns !'
+    return [f'        {returns} (look ! {at(0, base)} refl) $ ' + ' $ '.join(f'forget ! {at(i, base)} refl' for i in reversed(range(many)) if i not in unset) + ' $',
             '        ' + ''.join(f'move ! ({at(i, base)} ∷ {at(i, base) + 1} ∷ []) $ free1 ! $ ' for i in range(many)) + 'free0 ! $']
 
 
@@ -86,7 +93,7 @@ def last_list(t):
 def asks(callee, kind, x, n, outcome):
     """The steps from the call of a function that tells a part of the outcome to its result `x`, which says what the part is."""
     name, alias, said = callee.contract, callee.alias, f'{x} ≡ {callee.says(0, ["r₁"])}'
-    y = x.rstrip('₃₄')
+    y = x.rstrip('₃₄₅₇')
     return [
         f'        use1 W (raw ({name} 𝓤 H A at-mem runs .pre (to-{alias} r₁ v₁))) (goes-{alias} r₁ v₁) $',
         f'        calls-at ! fm ({name} 𝓤 H A at-mem runs) known-{alias} (to-{alias} r₁ v₁) (and-then ! (load ! (from ! (stop !)) (look ! {outcome} refl)) (no-more !)) (λ v{n}.',
@@ -95,38 +102,31 @@ def asks(callee, kind, x, n, outcome):
         f'        peeks ! {kind.row} (Is {kind.row}) (shows 𝓤 H A {kind.row}) {x} (v{n} ∷ []) (λ is{n}.']
 
 
-def stores_element(t, places, cell, base, spot):
-    """The steps from the calls to where the element is stored, and what the state with it owns stands first."""
+def stores_element(t, places, cell, base, spot, place_is='is₃', x='r₄', is_x='is₄'):
+    """The steps from the calls to where the element is stored."""
     at, e, s = places.at, t.element, t.s
     word = f'in-word {e.many} (size E′.mir) i tt (below i {spot})'
     look = lambda local: f'(load ! (from ! (stop !)) (look ! {at(local, base)} refl))'
     return [
-        f'        rewrite ! {at(places.spot, base)} (λ (u : Val). ‵ (fat fullShare (tyInt w64) l{places.spot} zero u)) (ap only (is₃ .0)) refl $',
+        f'        rewrite ! {at(places.spot, base)} (λ (u : Val). ‵ (fat fullShare (tyInt w64) l{places.spot} zero u)) (ap only ({place_is} .0)) refl $',
         f'        assigns ! (bin ! {look(places.spot)} (lit ! tt) ({word})) (from ! (stop !)) (init ! {at(places.before, base)} refl (tt, {word})) $',
         f'        assigns ! (addr ! (from ! (hop ! (look ! {at(1, base)} refl) (fld ! {{τ = tyArray E′.mir {e.many}}} {{d = {e.start}}} (lies .0) (stop !))))) (from ! (stop !)) (init ! {at(places.array, base)} refl (tt, tt)) $',
         f'        assigns ! (bin ! {look(places.array)} {look(places.before)} tt) (from ! (stop !)) (init ! {at(places.item, base)} refl (tt, tt)) $',
         f'        assigns ! (of-opd ! {look(places.left)}) (from ! (hop ! (look ! {at(places.item, base)} refl) (stop !)))',
-        f'          (store-elem ! {cell} E.the-field E′.the-field-laws {e.many} ({s} .{e.field}) i r₄ (LL.owed T.the-type T′.the-laws {s} (vals {s}) was{place(e.number)}) (below i {spot}) is₄ (sub ! {e.number} {{τ = rawArray E′.mir {e.many}}} {{d = {e.start}}} (lies .1) (whole !)) ({e.struct.typed("r₄", "is₄")})) $',
-        f'        drop ! $ owned ! T.the-row (Is T.the-row) {t.state.makes} (storing i r₄) _ (made i r₄ v₄ was is₄) $']
+        f'          (store-elem ! {cell} E.the-field E′.the-field-laws {e.many} ({s} .{e.field}) i {x} (LL.owed T.the-type T′.the-laws {s} (vals {s}) was{place(e.number)}) (below i {spot}) {is_x} (sub ! {e.number} {{τ = rawArray E′.mir {e.many}}} {{d = {e.start}}} (lies .1) (whole !)) ({e.struct.typed(x, is_x)})) $']
 
 
-def walk_of_changed(t):
-    """The borrow is opened, the state copied out, the calls made, the state stored whole or one element of it stored, and the borrow closed at it."""
-    places, written = Places(t), t.output is not None
-    at, many, s = places.at, places.many, t.s
-    lines, steps = entry(t, places)
-    typed = t.state.typed
-    said = f'(r₁ ≡ outcome) × ({last_list(t)} ≡ bytes)' if written else 'r₁ ≡ outcome'
-    first = '(e₁ .0)' if written else 'e₁'
-    cell = 4 if written else 2
+def to_outcome(t, places, cell):
+    """The steps up to where the outcome stands in its local: the borrow is opened, the state copied out, and the work done."""
+    at, many, s, written = places.at, places.many, t.s, t.output is not None
     base = cell + 4
-    end = base - 2
-    answer = t.answer
+    said = f'(r₁ ≡ outcome) × ({last_list(t)} ≡ bytes)' if written else 'r₁ ≡ outcome'
+    lines, steps = entry(t, places)
     steps += [
         f'        move ! ({2 * many} ∷ {2 * many + 1} ∷ {2 * many + 2} ∷ []) $ opens ! tt T.the-row {{h = {s}}} b o (λ vs. spelt ! T.the-row (Is T.the-row) (shows 𝓤 H A T.the-row) vals ({t.state.tells()}) fullShare {s} vs b o $',
         f'        -- the cell; what the {t.state.type} owns; the open borrow; obs; auth; {places.all(5)}; what the other parameters own at {2 * many + 5}; their tokens at {2 * many + 6}',
         f'        move ! (1 ∷ []) $ peeks ! T.the-row (Is T.the-row) (shows 𝓤 H A T.the-row) {s} (vals {s}) (λ was.',
-        f'        assigns ! (of-opd ! (load ! (from ! (hop ! (look ! {at(1, 5)} refl) (stop !))) (look-raw ! 1 refl))) (from ! (stop !)) (init ! {at(places.copy, 5)} refl ({typed(s, "was")})) $']
+        f'        assigns ! (of-opd ! (load ! (from ! (hop ! (look ! {at(1, 5)} refl) (stop !))) (look-raw ! 1 refl))) (from ! (stop !)) (init ! {at(places.copy, 5)} refl ({t.state.typed(s, "was")})) $']
     steps += relent(t, places, 5)
     steps += [
         '        -- the work',
@@ -142,6 +142,20 @@ def walk_of_changed(t):
         f'        -- what the outcome owns; the tokens; {"the last list; true; " if written else ""}the cell at {cell}; the open borrow; obs; auth; {places.all(base)}',
         '        peeks ! O.the-row (Is O.the-row) (shows 𝓤 H A O.the-row) r₁ (v₁ ∷ []) (λ is₁.',
         f'        land ! (from ! (stop !)) (init ! {at(places.outcome, base)} refl ({t.outcome.typed("r₁", "is₁")})) $']
+    return lines, steps
+
+
+def walk_of_changed(t):
+    """The borrow is opened, the state copied out, the calls made, the state stored whole or one element of it stored, and the borrow closed at it."""
+    places, written = Places(t), t.output is not None
+    at, many = places.at, places.many
+    typed = t.state.typed
+    first = '(e₁ .0)' if written else 'e₁'
+    cell = 4 if written else 2
+    base = cell + 4
+    end = base - 2
+    answer = t.answer
+    lines, steps = to_outcome(t, places, cell)
     results = [('k', places.told, 'the answer')] + [('i', places.spot, 'the place')] * bool(t.element) + [('r₄', places.left, 'the element') if t.element else ('r₃', places.copy, 'the state')]
     for n, ((callee, kind), (x, local, what)) in enumerate(zip(t.asked, results)):
         steps += [f'        -- {what}'] + ([f'        drop ! $ owned ! O.the-row (Is O.the-row) {t.outcome.makes} r₁ _ is₁ $'] if n else [])
@@ -150,6 +164,7 @@ def walk_of_changed(t):
     same = lambda n, callee: f'(e{n} ∙ ap (λ (m : {t.outcome.type}). {callee.says(0, ["m"])}) {first})'
     if t.element:
         steps += stores_element(t, places, cell, base, same('₃', t.asked[1][0]))
+        steps += [f'        drop ! $ owned ! T.the-row (Is T.the-row) {t.state.makes} (storing i r₄) _ (made i r₄ v₄ was is₄) $']
         left, at_left = 'storing i r₄', '(vals (storing i r₄))'
     else:
         steps += [f'        assigns ! (of-opd ! (load ! (from ! (stop !)) (look ! {at(places.copy, base)} refl))) (from ! (hop ! (look ! {at(1, base)} refl) (stop !))) (store-raw ! {cell} refl ({typed("r₃", "is₃")})) $']

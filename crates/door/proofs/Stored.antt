@@ -1,9 +1,10 @@
--- A message changes no record of a server but that of its T. So the record that is handed on, put in its place, gives the server after the message. Assumes nothing.
+-- A message changes no record of a server but that of its T. So the record that is handed on, put in its place, gives the server after the message. A reply changes a drive by what it comes to. Assumes nothing.
 use Prim.Native.Nat.{ℕ, _<_}
 use mathlib.Core.Path.{_≡_, refl, sym, ap, _∙_}
 use mathlib.Core.List.{List}
 use mathlib.Core.Logic.{⊎-elim}
 use mathlib.Core.Bool.{Bool, true, false, cond}
+use native.Mathlib.Omega.{arith}
 use lib.ListN.{length, getD, set}
 use lib.Seq.{getD-set-same, set-getD, set-set}
 use Rattle.masks.proofs.Bools.{true-or-false, true-and-false}
@@ -21,7 +22,11 @@ use Rattle.server_step.specs.declared.Considered.{Considered}
 use Rattle.server_step.specs.OneStore.{placeOf, considered, consideredAt, stored}
 use Rattle.server_step.proofs.StepIsServe.{step-is-serve, place-lt}
 use Rattle.rules.specs.Choice.{_if_else_}
-use Rattle.door.specs.Exchange.{Exchange, nothingTaken, exchanged, take, taken}
+use Rattle.drive.specs.declared.Drive.{Drive}
+use Rattle.drive.specs.declared.Moved.{Moved}
+use Rattle.drive_step.specs.Weighing.{turned, kept, stored as storedIn}
+use Rattle.drive_step.proofs.Outcomes.{stored-hears, placed}
+use Rattle.door.specs.Exchange.{Exchange, nothingTaken, exchanged, take, taken, takeReply, weighReply}
 
 -- what is considered, told by the step
 pub by-step : (s : Server) (m : Message) → length (s .records) ≡ 64
@@ -89,3 +94,41 @@ module _ (s : Server) (input z : List ℕ) where
       let server : serve s m .server ≡ putRecord s (placeOf (m .t)) (considered s m .after) = ap (λ (x : Served). x .server) (sym (step-is-serve s m)) in
       exchanged-put s (placeOf (m .t)) z (decode input) (serve s m) (encode (serve s m .reply) z)
       (rw server (again s (placeOf (m .t)) (considered s m .after)))
+
+-- ---- what `weigh_reply` tells, where the answer that it tells is put, and the lent drive after the reply, for each way to store
+
+module _ (d : Drive) (input : List ℕ) where
+  outcome-by : (b : Bool) → there (decode input .refusal) ≡ b → record { refusal = weighReply d input .refusal; drive = storedIn d (weighReply d input) } ≡ takeReply d input
+  unfolding weighReply takeReply storedIn
+  outcome-by true e = rw e (rw e)
+  outcome-by false e = rw e (stored-hears d (decode input .message))
+
+  outcome : record { refusal = weighReply d input .refusal; drive = storedIn d (weighReply d input) } ≡ takeReply d input
+  outcome = outcome-by _ refl
+
+  below-by : (b : Bool) → there (decode input .refusal) ≡ b → weighReply d input .place < 12
+  unfolding weighReply
+  below-by true e = rw e (omega arith)
+  below-by false e = rw e (placed d (decode input .message))
+
+  pub weigh-reply-told : weighReply d input .refusal ≡ takeReply d input .refusal
+  weigh-reply-told = ap (λ (o : Moved). o .refusal) outcome
+
+  pub weigh-reply-below : weighReply d input .place < 12
+  weigh-reply-below = below-by _ refl
+
+  left : storedIn d (weighReply d input) ≡ takeReply d input .drive
+  left = ap (λ (o : Moved). o .drive) outcome
+
+  pub weigh-reply-refused : there (weighReply d input .refusal) ≡ true → d ≡ takeReply d input .drive
+  unfolding storedIn
+  weigh-reply-refused e = rw e at left
+
+  module _ (taken : there (weighReply d input .refusal) ≡ false) where
+    pub weigh-reply-turned : weighReply d input .turns ≡ true → turned (weighReply d input) ≡ takeReply d input .drive
+    unfolding storedIn
+    weigh-reply-turned e = rw (taken, e) at left
+
+    pub weigh-reply-kept : weighReply d input .turns ≡ false → kept d (weighReply d input .place) (weighReply d input .answer) (weighReply d input .seen) ≡ takeReply d input .drive
+    unfolding storedIn
+    weigh-reply-kept e = rw (taken, e) at left

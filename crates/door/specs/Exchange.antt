@@ -17,6 +17,8 @@ use Rattle.drive.specs.declared.Moved.{Moved}
 use Rattle.drive.specs.declared.Sending.{Sending}
 use Rattle.drive.specs.Hear.{hear, refused}
 use Rattle.drive.specs.Due.{due}
+use Rattle.drive_step.specs.declared.Weighed.{Weighed}
+use Rattle.drive_step.specs.Weighing.{untaken, weighed}
 use Rattle.door.specs.declared.Answer.{Answer}
 use Rattle.door.specs.declared.Taken.{Taken}
 use Rattle.door.specs.declared.Due.{Due}
@@ -57,6 +59,10 @@ taken s input z = told (take s input z) (placeOf (decode input .message .t))
 
 unfoldable pub takeReply : Drive → (input : List ℕ) → Moved
 takeReply d input = refused d (decode input .refusal) if there (decode input .refusal) else hear d (decode input .message)
+
+-- what code hands on: what the reply comes to, of which a part is stored
+unfoldable pub weighReply : Drive → (input : List ℕ) → Weighed
+weighReply d input = untaken (decode input .refusal) if there (decode input .refusal) else weighed d (decode input .message)
 
 -- ---- the message due
 

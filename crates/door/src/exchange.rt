@@ -2,12 +2,13 @@
 ghost use mathlib.Core.Path.{_≡_};
 ghost use Rattle.rules.specs.Choice.{_if_else_};
 ghost use Rattle.rules.specs.Flags.{there};
-ghost use Rattle.door.specs.Exchange.{taken, take, takeReply, post};
+ghost use Rattle.door.specs.Exchange.{taken, take, weighReply, post};
 use crate::Answer;
 use crate::Due;
 use crate::Taken;
 use drive::Drive;
-use drive::Moved;
+use drive_step::Weighed;
+use drive_step::weighing::untaken;
 use server::Server;
 
 // A message to a server, and its reply. The server is lent by value and not handed back: what is handed on is the one record to store.
@@ -65,19 +66,16 @@ fn refused(refusal: u32) -> Answer
     }
 }
 
-// A reply to a drive.
-pub fn take_reply(d: Drive, input: &[u8]) -> Moved
-    ensures { λ r. ⌜ r ≡ takeReply d (now (input .entry)) ⌝ }
+// A reply to a drive, and what it comes to. The drive is lent by value and not handed back: what is handed on is what changes.
+pub fn weigh_reply(d: Drive, input: &[u8]) -> Weighed
+    ensures { λ r. ⌜ r ≡ weighReply d (now (input .entry)) ⌝ }
 {
     let m = codec::decode(input);
     let unread = m.refusal != 0;
     if unread {
-        return Moved {
-            refusal: m.refusal,
-            drive: d,
-        };
+        return untaken(m.refusal);
     }
-    drive_step::hear(d, m.message)
+    drive_step::weigh(d, m.message)
 }
 
 // The message due to a drive's servers.

@@ -4,7 +4,7 @@ use mathlib.Core.List.{List}
 use Prim.Native.Nat.{ℕ}
 use Rattle.outcomes.specs.Once.{Answers, Leaves}
 use Rattle.door.proofs.exchange.take.Reads as door·exchange·take-contract
-use Rattle.door.proofs.exchange.take_reply.Reads as door·exchange·take-reply-contract
+use Rattle.door.proofs.exchange.weigh_reply.Reads as door·exchange·weigh-reply-contract
 use Rattle.door.proofs.exchange.post.Reads as door·exchange·post-contract
 use Rattle.door.proofs.readings.counter.Reads as door·readings·counter-contract
 use Rattle.door.proofs.readings.log_entry.Reads as door·readings·log-entry-contract
@@ -23,8 +23,8 @@ door·exchange·take κ a x y e e′ p q = p .0 ∙ sym (q .0)
 pub door·exchange·take·leaves-output : Leaves {B = List ℕ} (λ κ e. e .1 .1 .0 .now) door·exchange·take-contract.Post
 door·exchange·take·leaves-output κ a x y e e′ p q = p .1 ∙ sym (q .1)
 
-pub door·exchange·take-reply : Answers door·exchange·take-reply-contract.Post
-door·exchange·take-reply κ a x y e e′ p q = p ∙ sym q
+pub door·exchange·weigh-reply : Answers door·exchange·weigh-reply-contract.Post
+door·exchange·weigh-reply κ a x y e e′ p q = p ∙ sym q
 
 pub door·exchange·post : Answers door·exchange·post-contract.Post
 door·exchange·post κ a x y e e′ p q = p .0 ∙ sym (q .0)

@@ -69,9 +69,23 @@ pub extern "C" fn drobulets_drive_take(d: &mut Drive, input: &[u8]) -> u32
     ensures { λ r. ⌜ (r ≡ takeReply (now (d .entry)) (now (input .entry)) .refusal)
         × (now (d .exit) ≡ takeReply (now (d .entry)) (now (input .entry)) .drive) ⌝ }
 {
-    let o = door::exchange::take_reply(*d, input);
-    let answer = drive_lent::refusal_of(o);
-    *d = drive_lent::drive_of(o);
+    let o = door::exchange::weigh_reply(*d, input);
+    let answer = drive_step::weighing::refusal(o);
+    let refused = drive_step::weighing::refused(o);
+    if refused {
+        return answer;
+    }
+    let turns = drive_step::weighing::turns(o);
+    if turns {
+        let n = drive_step::weighing::turned(o);
+        *d = n;
+        return answer;
+    }
+    let i = drive_step::weighing::place(o);
+    let v = drive_step::weighing::answer(o);
+    let x = drive_step::weighing::seen(o);
+    d.answers[i] = v;
+    d.seen = x;
     answer
 }
 
