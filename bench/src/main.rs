@@ -129,6 +129,7 @@ fn transactions() {
     for (by_turns, held, which) in both {
         println!("\nTransactions {which}; the numbers held at each server that takes part:\n");
         println!("| held | library | Rust | time, ratio |\n|---|---|---|---|");
-        whole::print(&whole::blocks(&Archive, by_turns), &whole::blocks(&Plain, by_turns), held);
+        let (library, rust) = whole::both(|| whole::blocks(&Archive, by_turns), || whole::blocks(&Plain, by_turns));
+        whole::print(&library, &rust, held);
     }
 }
