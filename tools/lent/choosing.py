@@ -1,5 +1,4 @@
 """The walk of a function with three ways: nothing is stored, or the whole state is, or one element of an array and one number are."""
-from lent.sources import place
 from lent.walks import Places, asks, closed, leaving, stores_element, to_outcome
 
 CELL, BASE, END = 2, 6, 4

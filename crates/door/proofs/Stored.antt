@@ -3,7 +3,7 @@ use Prim.Native.Nat.{ℕ, _<_}
 use mathlib.Core.Path.{_≡_, refl, sym, ap, _∙_}
 use mathlib.Core.List.{List}
 use mathlib.Core.Logic.{⊎-elim}
-use mathlib.Core.Bool.{Bool, true, false, cond}
+use mathlib.Core.Bool.{Bool, true, false}
 use native.Mathlib.Omega.{arith}
 use lib.ListN.{length, getD, set}
 use lib.Seq.{getD-set-same, set-getD, set-set}
@@ -18,15 +18,14 @@ use Rattle.server.specs.declared.Server.{Server}
 use Rattle.server.specs.declared.Served.{Served}
 use Rattle.server.specs.Held.{noRecord, recordAt, putRecord}
 use Rattle.server.specs.Serve.{serve}
-use Rattle.server_step.specs.declared.Considered.{Considered}
-use Rattle.server_step.specs.OneStore.{placeOf, considered, consideredAt, stored}
+use Rattle.server_step.specs.OneStore.{placeOf, considered, consideredAt}
 use Rattle.server_step.proofs.StepIsServe.{step-is-serve, place-lt}
 use Rattle.rules.specs.Choice.{_if_else_}
 use Rattle.drive.specs.declared.Drive.{Drive}
 use Rattle.drive.specs.declared.Moved.{Moved}
-use Rattle.drive_step.specs.Weighing.{turned, kept, stored as storedIn}
+use Rattle.drive_step.specs.Weighing.{turned, kept, stored}
 use Rattle.drive_step.proofs.Outcomes.{stored-hears, placed}
-use Rattle.door.specs.Exchange.{Exchange, nothingTaken, exchanged, take, taken, takeReply, weighReply}
+use Rattle.door.specs.Exchange.{nothingTaken, exchanged, take, taken, takeReply, weighReply}
 
 -- what is considered, told by the step
 pub by-step : (s : Server) (m : Message) → length (s .records) ≡ 64
@@ -98,12 +97,12 @@ module _ (s : Server) (input z : List ℕ) where
 -- ---- what `weigh_reply` tells, where the answer that it tells is put, and the lent drive after the reply, for each way to store
 
 module _ (d : Drive) (input : List ℕ) where
-  outcome-by : (b : Bool) → there (decode input .refusal) ≡ b → record { refusal = weighReply d input .refusal; drive = storedIn d (weighReply d input) } ≡ takeReply d input
-  unfolding weighReply takeReply storedIn
+  outcome-by : (b : Bool) → there (decode input .refusal) ≡ b → record { refusal = weighReply d input .refusal; drive = stored d (weighReply d input) } ≡ takeReply d input
+  unfolding weighReply takeReply stored
   outcome-by true e = rw e (rw e)
   outcome-by false e = rw e (stored-hears d (decode input .message))
 
-  outcome : record { refusal = weighReply d input .refusal; drive = storedIn d (weighReply d input) } ≡ takeReply d input
+  outcome : record { refusal = weighReply d input .refusal; drive = stored d (weighReply d input) } ≡ takeReply d input
   outcome = outcome-by _ refl
 
   below-by : (b : Bool) → there (decode input .refusal) ≡ b → weighReply d input .place < 12
@@ -117,18 +116,18 @@ module _ (d : Drive) (input : List ℕ) where
   pub weigh-reply-below : weighReply d input .place < 12
   weigh-reply-below = below-by _ refl
 
-  left : storedIn d (weighReply d input) ≡ takeReply d input .drive
+  left : stored d (weighReply d input) ≡ takeReply d input .drive
   left = ap (λ (o : Moved). o .drive) outcome
 
   pub weigh-reply-refused : there (weighReply d input .refusal) ≡ true → d ≡ takeReply d input .drive
-  unfolding storedIn
+  unfolding stored
   weigh-reply-refused e = rw e at left
 
   module _ (taken : there (weighReply d input .refusal) ≡ false) where
     pub weigh-reply-turned : weighReply d input .turns ≡ true → turned (weighReply d input) ≡ takeReply d input .drive
-    unfolding storedIn
+    unfolding stored
     weigh-reply-turned e = rw (taken, e) at left
 
     pub weigh-reply-kept : weighReply d input .turns ≡ false → kept d (weighReply d input .place) (weighReply d input .answer) (weighReply d input .seen) ≡ takeReply d input .drive
-    unfolding storedIn
+    unfolding stored
     weigh-reply-kept e = rw (taken, e) at left

@@ -1,6 +1,6 @@
 -- What a reply comes to, for each way that the weighing ends; and what is stored of it is what the step makes of the drive. Assumes nothing.
 use mathlib.Core.Path.{_≡_, refl}
-use mathlib.Core.Bool.{Bool, true, false, not}
+use mathlib.Core.Bool.{Bool, true, false}
 use Prim.Native.Nat.{ℕ, _<_, max}
 use native.Mathlib.Omega.{arith}
 use borrow.Author.Tests.{eqb-true}
@@ -11,7 +11,6 @@ use Rattle.rules.specs.Flags.{there}
 use Rattle.wire.specs.declared.Message.{Message}
 use Rattle.wire.specs.Codes.{Done, Behind}
 use Rattle.drive.specs.declared.Drive.{Drive}
-use Rattle.drive.specs.declared.Moved.{Moved}
 use Rattle.drive.specs.Held.{answerAt, withAnswer}
 use Rattle.drive.specs.Decide.{decided}
 use Rattle.drive.specs.Hear.{answerOf, settle, count, heard, refusal, hear}

@@ -8,7 +8,7 @@ use Rattle.rules.specs.Flags.{there}
 use Rattle.rules.specs.declared.Pieces.{Pieces}
 use Rattle.rules.specs.declared.MaybeSet.{MaybeSet}
 use Rattle.rules.specs.Pieces.{noPieces}
-use Rattle.rules.specs.Maybe.{notSet, someSet}
+use Rattle.rules.specs.Maybe.{notSet}
 use Rattle.wire.specs.declared.Message.{Message}
 use Rattle.wire.specs.Codes.{Done, Behind}
 use Rattle.drive.specs.declared.Answer.{Answer}
