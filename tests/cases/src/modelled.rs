@@ -4,8 +4,8 @@ use crate::answer::Answer;
 use crate::call::{Call, Lent};
 use crate::state::State;
 use crate::through::{came, Came, Output, Through};
-use engine::{image, layout, Engine, Plain};
-use model::{ballots, codec, Drive, Message, Refusal, Server, Value, Values, Vote};
+use engine::{image, layout, messages, Engine, Plain};
+use model::{ballots, codec, Drive, Refusal, Server};
 
 pub struct Modelled;
 
@@ -71,7 +71,7 @@ fn at_server(server: &mut Server, call: &Call, output: &mut Output) -> Option<An
             let record = server.records.get(*t as usize);
             let results = record.and_then(|record| record.results.as_ref());
             let result = results.and_then(|results| results.entries().get(*place as usize));
-            result.map_or(Answer::Nothing, |result| Answer::Value(value_image(result)))
+            result.map_or(Answer::Nothing, |result| Answer::Value(image::value_image(result)))
         }
         _ => return None,
     })
@@ -101,75 +101,13 @@ fn at_drive(drive: &mut Drive, call: &Call, output: &mut Output) -> Option<Answe
 fn alone(call: &Call, output: &mut Output) -> Option<Answer> {
     Some(match call {
         Call::Next { above, coordinator } => told(ballots::next(*coordinator, *above), Answer::Number),
-        Call::Decode(bytes) => told(codec::decode(bytes), |message| Answer::Message(Box::new(message_image(&message)))),
+        Call::Decode(bytes) => {
+            told(codec::decode(bytes), |message| Answer::Message(Box::new(messages::message_image(&message))))
+        }
         Call::Encode(message) => {
-            let outcome = codec::encode(&message_of(message)?, output.lend());
+            let outcome = codec::encode(&messages::message(message)?, output.lend());
             written(outcome, output)
         }
         _ => return None,
     })
-}
-
-/// The model's message of the same fields. It has none for a code that no message has.
-fn message_of(image: &layout::Message) -> Option<Message> {
-    let layout::Message { code, t, server, ballot, promise, word, .. } = *image;
-    let (pieces, set) = (image::pieces(&image.pieces), image::set(&image.set));
-    Some(match code {
-        0 => Message::PreAccept { t, ballot, pieces },
-        1 => Message::Accept { t, ballot, pieces, set },
-        2 => Message::Commit { t, pieces, set },
-        3 => Message::Prepare { t, ballot, pieces },
-        4 => Message::Inquire { t },
-        5 => Message::Fetch { t },
-        16 => Message::PreAcceptOk { t, server, ballot, word },
-        17 => Message::AcceptOk { t, server, ballot },
-        18 => Message::CommitOk { t, server },
-        19 => {
-            let accepted = Vote { ballot: image.accepted.ballot, set: image::set(&image.accepted.set) };
-            let arrival = (image.arrival.some != 0).then_some(image.arrival.word);
-            Message::PrepareOk { t, server, ballot, arrival, accepted: (image.accepted.some != 0).then_some(accepted) }
-        }
-        20 => Message::Done { t, pieces, set },
-        21 => Message::Behind { t, server, asked: ballot, promise },
-        22 => Message::NotYet { t, server },
-        23 => Message::Results { t, server, values: values_of(&image.values) },
-        _ => return None,
-    })
-}
-
-fn values_of(image: &layout::Values) -> Values {
-    let value = |value: layout::Value| Value { value: value.value, kept: value.kept != 0 };
-    Values { count: image.count, list: image.list.map(value) }
-}
-
-fn value_image(value: &Value) -> layout::Value {
-    layout::Value { value: value.value, kept: value.kept.into() }
-}
-
-/// The fields of the model's message, and 0 for those that it does not have.
-fn message_image(message: &Message) -> layout::Message {
-    let mut image = layout::Message { code: message.code(), t: message.t(), ..layout::Message::default() };
-    image.server = message.server().unwrap_or(0);
-    image.ballot = message.ballot().unwrap_or(0);
-    image.pieces = message.pieces().map_or(Default::default(), image::pieces_image);
-    image.set = message.set().map_or(Default::default(), image::set_image);
-    match message {
-        Message::PreAcceptOk { word, .. } => image.word = *word,
-        Message::PrepareOk { arrival, accepted, .. } => {
-            image.arrival = arrival.map_or(Default::default(), |word| layout::MaybeWord { some: 1, word });
-            image.accepted = accepted.map_or(Default::default(), |vote| {
-                let Vote { ballot, set } = vote;
-                layout::MaybeVote { some: 1, ballot, set: image::set_image(&set) }
-            });
-        }
-        Message::Behind { promise, .. } => image.promise = *promise,
-        Message::Results { values, .. } => {
-            image.values.count = values.count;
-            for (to, value) in image.values.list.iter_mut().zip(values.entries()) {
-                *to = value_image(value);
-            }
-        }
-        _ => {}
-    }
-    image
 }

@@ -35,19 +35,19 @@ fn maybe<T>(some: u32, item: T) -> Option<T> {
     }
 }
 
-fn word(image: &layout::MaybeWord) -> Option<u64> {
+pub fn word(image: &layout::MaybeWord) -> Option<u64> {
     maybe(image.some, image.word)
 }
 
-fn word_image(word: Option<u64>) -> layout::MaybeWord {
+pub fn word_image(word: Option<u64>) -> layout::MaybeWord {
     word.map_or(Default::default(), |word| layout::MaybeWord { some: 1, word })
 }
 
-fn vote(image: &layout::MaybeVote) -> Option<Vote> {
+pub fn vote(image: &layout::MaybeVote) -> Option<Vote> {
     maybe(image.some, Vote { ballot: image.ballot, set: set(&image.set) })
 }
 
-fn vote_image(vote: Option<Vote>) -> layout::MaybeVote {
+pub fn vote_image(vote: Option<Vote>) -> layout::MaybeVote {
     vote.map_or(Default::default(), |v| layout::MaybeVote { some: 1, ballot: v.ballot, set: set_image(&v.set) })
 }
 
@@ -59,15 +59,19 @@ fn maybe_set_image(set: Option<Set>) -> layout::MaybeSet {
     set.map_or(Default::default(), |set| layout::MaybeSet { some: 1, set: set_image(&set) })
 }
 
-fn values(image: &layout::Values) -> Values {
+pub fn values(image: &layout::Values) -> Values {
     let value = |v: layout::Value| Value { value: v.value, kept: v.kept != 0 };
     Values { count: image.count, list: image.list.map(value) }
 }
 
-fn values_image(values: &Values) -> layout::Values {
+pub fn value_image(value: &Value) -> layout::Value {
+    layout::Value { value: value.value, kept: value.kept.into() }
+}
+
+pub fn values_image(values: &Values) -> layout::Values {
     let mut image = layout::Values { count: values.count, ..Default::default() };
-    for (to, v) in image.list.iter_mut().zip(values.entries()) {
-        *to = layout::Value { value: v.value, kept: v.kept.into() };
+    for (to, value) in image.list.iter_mut().zip(values.entries()) {
+        *to = value_image(value);
     }
     image
 }

@@ -3,6 +3,7 @@
 #[cfg(feature = "archive")]
 pub mod archive;
 pub mod image;
+pub mod messages;
 pub mod plain;
 pub mod text;
 
