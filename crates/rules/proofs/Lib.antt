@@ -8,6 +8,7 @@ pub mod SamePieces
 pub mod PiecesKept
 pub mod TouchedWord
 pub mod SetLaws
+pub mod InTurn
 pub mod RuleOne
 pub mod RuleNine
 pub mod RuleTwo
