@@ -16,9 +16,15 @@ nothing n = n ≡ 0
 pub at-last : (n : ℕ) → (0 ≡ n) ↔ nothing n
 at-last n = (λ e. sym e, λ e. sym e)
 
+-- what comes after is asked only where the reason does not hold
+pub in-turn-after : (P : Type 0) (rest : ℕ → Type 0) (b : Bool) (k r : ℕ) → (b ≡ true) ↔ P → ((P → ⊥) → (n : ℕ) → (r ≡ n) ↔ rest n) → (n : ℕ) → (cond b k r ≡ n) ↔ (k when P otherwise rest) n
+in-turn-after P rest true k r h after n = (λ e. inl (h .0 refl, sym e), λ q. ⊎-elim (λ p. sym (p .1)) (λ p. absurd (p .0 (h .0 refl))) q)
+in-turn-after P rest false k r h after n =
+    let no-reason : P → ⊥ = λ p. true-and-false (h .1 p) refl in
+    (λ e. inr (no-reason, after no-reason n .0 e), λ q. ⊎-elim (λ p. absurd (no-reason (p .0))) (λ p. after no-reason n .1 (p .1)) q)
+
 pub in-turn : (P : Type 0) (rest : ℕ → Type 0) (b : Bool) (k r : ℕ) → (b ≡ true) ↔ P → ((n : ℕ) → (r ≡ n) ↔ rest n) → (n : ℕ) → (cond b k r ≡ n) ↔ (k when P otherwise rest) n
-in-turn P rest true k r h after n = (λ e. inl (h .0 refl, sym e), λ q. ⊎-elim (λ p. sym (p .1)) (λ p. absurd (p .0 (h .0 refl))) q)
-in-turn P rest false k r h after n = (λ e. inr (λ p. true-and-false (h .1 p) refl, after n .0 e), λ q. ⊎-elim (λ p. absurd (true-and-false (h .1 (p .0)) refl)) (λ p. after n .1 (p .1)) q)
+in-turn P rest b k r h after = in-turn-after P rest b k r h (λ _. after)
 
 -- the reason that something is not kept
 pub broken : (K : Type 0) (b : Bool) → (b ≡ false) ↔ K → (b ≡ true) ↔ (K → ⊥)

@@ -3,8 +3,9 @@
 use Prim.Native.Nat.{ℕ, _<_, _≤_}
 use mathlib.Core.Path.{_≡_, refl}
 use mathlib.Core.Bool.{Bool, true, false}
-use mathlib.Core.Logic.{_↔_}
+use mathlib.Core.Logic.{_↔_, ⊎-elim}
 use native.Mathlib.Omega.{arith}
+use Rattle.masks.proofs.Bools.{true-or-false}
 use Rattle.rules.specs.Cluster.{badCoordinator}
 use Rattle.rules.specs.Ballots.{nextAbove, noNext, nextRefusal, nextBallot}
 use Rattle.rules.proofs.NextIsSmallest.{next-is, past, not-past}
@@ -13,6 +14,10 @@ use Rattle.rules.proofs.RuleOne.{coordinator-bad, coordinator-good, Rec
 -- a ballot above n that c recovers with
 abbrev pub Above : (c n b : ℕ) → Type 0
 Above c n b = Recovers c b × (n < b)
+
+-- "no next ballot", of a coordinator
+pub no-next : (c n : ℕ) → c ≤ 7 → (noNext c n ≡ true) ↔ ((b : ℕ) → Above c n b → ⊥)
+no-next c n small = (λ e b h. omega (arith, past c n e, next-is c n small .smallest b (h .0 .0) (h .0 .2) (h .1)), λ none. ⊎-elim (λ e. e) (λ e. let x = next-is c n small in absurd (none (nextAbove c n) ((x .lawful, not-past c n e, x .own), x .above))) (true-or-false (noNext c n)))
 
 module _ (c n : ℕ) where
   -- what the answer is, in each of the three cases
@@ -29,7 +34,7 @@ module _ (c n : ℕ) where
       go true last e f = stranger (coordinator-bad c .0 e) (rw e) (rw e)
       go false true e f =
           let small = coordinator-good c .0 e in
-          nothing small (λ b h. omega (arith, past c n f, next-is c n small .smallest b (h .0 .0) (h .0 .2) (h .1))) (rw (e, f)) (rw (e, f))
+          nothing small (no-next c n small .0 f) (rw (e, f)) (rw (e, f))
       go false false e f =
           let small = coordinator-good c .0 e in
           let x = next-is c n small in

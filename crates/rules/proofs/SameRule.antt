@@ -14,7 +14,10 @@ use Rattle.rules.proofs.SamePieces.{same-is, is-same}
 use Rattle.rules.proofs.SetLaws.{same-set, set-same, in-members, in-members-of}
 
 -- as many, and each of the eight places that is counted holds the same piece
-pub same-pieces-rule : (a b : Pieces) → (samePieces a b ≡ true) ↔ ((a .count ≡ b .count) × ((i : ℕ) → i ≤ 7 → i < a .count → pieceAt a i ≡ pieceAt b i))
+abbrev pub EqualPieces : Pieces → Pieces → Type 0
+EqualPieces a b = (a .count ≡ b .count) × ((i : ℕ) → i ≤ 7 → i < a .count → pieceAt a i ≡ pieceAt b i)
+
+pub same-pieces-rule : (a b : Pieces) → (samePieces a b ≡ true) ↔ EqualPieces a b
 same-pieces-rule a b =
     (λ e. let s = same-is a b e in (s .count, λ i l c. s .piece i (omega arith) c), λ h. is-same a b (record { count = h .0; piece = λ i l c. h .1 i (omega arith) c }))
 

@@ -3,17 +3,16 @@ use mathlib.Core.Path.{_≡_, sym, ap, _∙_}
 use mathlib.Core.Logic.{_↔_, _⊎_, inl, inr, ⊎-elim}
 use mathlib.Core.List.{[], _∷_}
 use mathlib.Core.Bool.{true, false, not, _&&_}
-use Prim.Native.Nat.{ℕ, _/_, _≤_, _<_}
+use Prim.Native.Nat.{ℕ, _/_, _<_}
 use Rattle.masks.specs.Bits.{has, In}
 use Rattle.masks.proofs.Bools.{and-yes, and-yes-l, and-yes-r, or-yes, or-yes-l, or-yes-r, not-yes}
 use Rattle.masks.proofs.Laws.{has-not, not-has}
 use Rattle.rules.specs.Flags.{there}
-use Rattle.rules.specs.declared.Pieces.{Pieces}
-use Rattle.rules.specs.Pieces.{pieceAt, anyPieces, samePieces, shardsOf}
+use Rattle.rules.specs.Pieces.{anyPieces, samePieces, shardsOf}
 use Rattle.rules.specs.Sets.{sameSet}
 use Rattle.rules.proofs.InTurn.{_when_otherwise_, nothing, in-turn, at-last, broken, denied}
 use Rattle.rules.proofs.RuleTwo.{LawfulPieces}
-use Rattle.rules.proofs.SameRule.{same-pieces-rule, same-set-rule}
+use Rattle.rules.proofs.SameRule.{EqualPieces, same-pieces-rule, same-set-rule}
 use Rattle.wire.specs.declared.Message.{Message}
 use Rattle.wire.specs.Codes.{shapeOf, serverTakes, asks, commits}
 use Rattle.wire.specs.Faults.{overCount, badNumbers, badPieces, badSets}
@@ -48,13 +47,9 @@ untouched-is s m = (
   λ h. and-yes (asks (m .code)) (not (has (shardsOf (m .pieces)) (shard s))) (ask-codes (m .code) ∙ h .0) (ap not (not-has (h .1))),
 )
 
--- the same pieces, "arrays up to their counts"
-abbrev pub SamePieces : Pieces → Pieces → Type 0
-SamePieces a b = (a .count ≡ b .count) × ((i : ℕ) → i ≤ 7 → i < a .count → pieceAt a i ≡ pieceAt b i)
-
 -- 5: "pieces differ from those held"
 abbrev pub OtherPieces : Record → Message → Type 0
-OtherPieces v m = Of m pieceCodes × There (v .pieces .count) × (SamePieces (v .pieces) (m .pieces) → ⊥)
+OtherPieces v m = Of m pieceCodes × There (v .pieces .count) × (EqualPieces (v .pieces) (m .pieces) → ⊥)
 
 other-pieces : (v : Record) (m : Message) → (otherPieces v m ≡ true) ↔ OtherPieces v m
 unfolding otherPieces
@@ -63,9 +58,9 @@ other-pieces v m = (
       let h = and-yes-l (shapeOf (m .code) .pieces && anyPieces (v .pieces)) (not (samePieces (v .pieces) (m .pieces))) e in (
         sym (piece-codes (m .code)) ∙ and-yes-l (shapeOf (m .code) .pieces) (anyPieces (v .pieces)) h,
         there-is (v .pieces .count) .0 (and-yes-r (shapeOf (m .code) .pieces) (anyPieces (v .pieces)) h),
-        denied (SamePieces (v .pieces) (m .pieces)) (samePieces (v .pieces) (m .pieces)) (same-pieces-rule (v .pieces) (m .pieces)) .0 (and-yes-r (shapeOf (m .code) .pieces && anyPieces (v .pieces)) (not (samePieces (v .pieces) (m .pieces))) e),
+        denied (EqualPieces (v .pieces) (m .pieces)) (samePieces (v .pieces) (m .pieces)) (same-pieces-rule (v .pieces) (m .pieces)) .0 (and-yes-r (shapeOf (m .code) .pieces && anyPieces (v .pieces)) (not (samePieces (v .pieces) (m .pieces))) e),
       ),
-  λ h. and-yes _ _ (and-yes _ _ (piece-codes (m .code) ∙ h .0) (there-is (v .pieces .count) .1 (h .1))) (denied (SamePieces (v .pieces) (m .pieces)) (samePieces (v .pieces) (m .pieces)) (same-pieces-rule (v .pieces) (m .pieces)) .1 (h .2)),
+  λ h. and-yes _ _ (and-yes _ _ (piece-codes (m .code) ∙ h .0) (there-is (v .pieces .count) .1 (h .1))) (denied (EqualPieces (v .pieces) (m .pieces)) (samePieces (v .pieces) (m .pieces)) (same-pieces-rule (v .pieces) (m .pieces)) .1 (h .2)),
 )
 
 -- 6: "Commit, or Done at a server, with another set than the committed one"
