@@ -10,6 +10,7 @@ pub mod FormDown
 pub mod RefusalsAre
 pub mod BeginsIs
 pub mod DecidesIs
+pub mod HearsIs
 pub mod DueIs
 pub mod Decided
 pub mod DecideKeepsForm

@@ -11,6 +11,7 @@ pub mod FormParts
 pub mod FormDown
 pub mod RefusalsAre
 pub mod HostIs
+pub mod DoesIs
 pub mod ArrivalIs
 pub mod WantedIs
 pub mod ServeKeepsForm
