@@ -1,3 +1,4 @@
+pub mod RangeIs
 pub mod Signed
 pub mod Results
 pub mod PerKey

@@ -3,6 +3,15 @@ pub mod FastPath
 pub mod HighestAccepted
 pub mod Passed
 pub mod FormParts
+pub mod Tests
+pub mod AnswersAre
+pub mod WordsAre
+pub mod FormDown
+pub mod RefusalsAre
+pub mod BeginsIs
+pub mod DecidesIs
+pub mod HearsIs
+pub mod DueIs
 pub mod Decided
 pub mod DecideKeepsForm
 pub mod KeepsForm

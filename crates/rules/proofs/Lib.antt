@@ -8,3 +8,10 @@ pub mod SamePieces
 pub mod PiecesKept
 pub mod TouchedWord
 pub mod SetLaws
+pub mod InTurn
+pub mod RuleOne
+pub mod RuleNine
+pub mod RuleTwo
+pub mod RuleThree
+pub mod ConflictRule
+pub mod SameRule

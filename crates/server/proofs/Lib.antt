@@ -8,6 +8,12 @@ pub mod AcceptedStays
 pub mod Passed
 pub mod Did
 pub mod FormParts
+pub mod FormDown
+pub mod RefusalsAre
+pub mod HostIs
+pub mod DoesIs
+pub mod ArrivalIs
+pub mod WantedIs
 pub mod ServeKeepsForm
 pub mod LogGrows
 pub mod RunsOneByOne

@@ -1,3 +1,7 @@
+pub mod Columns
+pub mod TableBytes
+pub mod EncodingRefuses
+pub mod FaultsAre
 pub mod Lengths
 pub mod Longest
 pub mod Normalized
