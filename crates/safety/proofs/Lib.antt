@@ -32,6 +32,7 @@ pub mod Lists
 pub mod LogsInOrder
 pub mod RunsInOrder
 pub mod LogOrders
+pub mod CommitsSent
 pub mod OneOrder
 pub mod Sifting
 pub mod Replays

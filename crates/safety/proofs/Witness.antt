@@ -1,8 +1,7 @@
--- A history that happens, so that nothing holds emptily: an exchange over two shards that loses messages, a recovery by another coordinator, commits, and runs at servers of both shards.
+-- A history that happens, so that nothing holds emptily: an exchange over two shards that loses messages, a recovery by another coordinator, commits, runs at servers of both shards, and a learner that is told of it, runs and shows the same counters.
 -- Assumes nothing.
-use mathlib.Core.Path.{_≡_, refl, sym}
-use mathlib.Core.Bool.{Bool, true, false, true≢false}
-use mathlib.Core.Option.{Option, none, some, Option·getD}
+use mathlib.Core.Path.{_≡_, refl}
+use mathlib.Core.Bool.{true, false}
 use mathlib.Core.List.{List, [], _∷_, _++_}
 use lib.IntN.{pos}
 use lib.ListN.{replicate}
@@ -10,12 +9,9 @@ use Rattle.rules.specs.declared.Pieces.{Pieces}
 use Rattle.rules.specs.Pieces.{noPiece, put}
 use Rattle.counters.specs.Effects.{noCounters, counterAt}
 use Rattle.server.specs.Held.{arrivedAt, committedAt}
-use Rattle.cases.specs.Computes.{computes}
-use Rattle.safety.specs.Orders.{entries, listed, noting, firsts}
-use Rattle.safety.specs.Cluster as C
-use Rattle.safety.specs.Cluster.{World, Cluster, atFirst, Reached, fresh}
+use Rattle.safety.specs.Cluster.{World, Cluster, atFirst, Reached}
 use Rattle.safety.specs.Statements.{logOf}
-use Rattle.safety.proofs.Scripts.{Event, takes, runs, runsOut, sends, hears, movesOn, starts, recovers, vanishes, sentAs, wasSent, isTaken, onlyIf, withDrive, begins, after, onward, play, played}
+use Rattle.safety.proofs.Scripts.{Event, takes, inquires, runs, runsOut, sends, hears, movesOn, starts, recovers, vanishes, play, isSome, endOf, sameCounters, sameResults, scripts, played-out}
 
 -- put 5 on key 3 of shard 0 and on key 0 of shard 1
 both : Pieces
@@ -38,31 +34,26 @@ recovery =
 commitment : List Event
 commitment = sends 1 ∷ takes 0 15 ∷ takes 3 15 ∷ takes 5 15 ∷ runs 0 ∷ runsOut 3 ∷ []
 
+-- server 2 lost its disk: its further life, learner 14, asks server 0, takes the Done that it answers, and runs
+rebuilding : List Event
+rebuilding = inquires 0 8 ∷ takes 14 19 ∷ runs 14 ∷ []
+
 script : List Event
-script = exchange ++ (recovery ++ commitment)
+script = exchange ++ (recovery ++ (commitment ++ rebuilding))
+
+-- every definition that it computes with
+plays : Unit {0}
+unfolding scripts both world exchange recovery commitment rebuilding script
+plays = tt
 
 end : Cluster
-end = Option·getD (play world script (atFirst world)) (atFirst world)
-
-isSome : Option Cluster → Bool
-isSome none = false
-isSome (some c) = true
-
-some-of : (o : Option Cluster) (d : Cluster) → isSome o ≡ true → o ≡ some (Option·getD o d)
-unfolding isSome
-some-of none d e = absurd (true≢false (sym e))
-some-of (some c) d e = refl
-
--- every definition that the script computes with
-plays : Unit {0}
-unfolding computes entries listed noting firsts C.put C.firstServer C.atFirst C.answered C.ran C.asked C.moved C.began C.vanished sentAs wasSent isTaken onlyIf withDrive begins after onward play both world exchange recovery commitment script isSome end
-plays = tt
+end = endOf world script
 
 happens : isSome (play world script (atFirst world)) ≡ true
 unfolding plays
 happens = refl
 
--- what it ends with: 8 ran at servers of both shards, and put 5 into a counter of each; server 5, which never got its PreAccept, holds it as committed; two ballots were taken
+-- what it ends with: 8 ran at servers of both shards, and put 5 into a counter of each; server 5, which never got its PreAccept, holds it as committed; learner 14 ran it and shows what server 0 shows; two ballots were taken
 pub record Ends (c : Cluster) : Type 0 where
   pub log0 : logOf c 0 ≡ 8 ∷ []
   pub log3 : logOf c 3 ≡ 8 ∷ []
@@ -70,16 +61,17 @@ pub record Ends (c : Cluster) : Type 0 where
   pub key0 : counterAt (c .servers 3 .counters) 0 .value ≡ pos 5
   pub held5 : committedAt (c .servers 5) 8 ≡ true
   pub absent5 : arrivedAt (c .servers 5) 8 ≡ false
+  pub log14 : logOf c 14 ≡ 8 ∷ []
+  pub counters14 : sameCounters c 14 0 ≡ true
+  pub results14 : sameResults c 8 14 0 ≡ true
+  pub absent14 : arrivedAt (c .servers 14) 8 ≡ false
   pub order : c .order ≡ 8 ∷ []
   pub taken : c .taken ≡ record { number = 8; ballot = 11 } ∷ record { number = 8; ballot = 0 } ∷ []
 
 ends : Ends end
-unfolding plays
-ends = record { log0 = refl; log3 = refl; key3 = refl; key0 = refl; held5 = refl; absent5 = refl; order = refl; taken = refl }
-
-reached : Reached world end
-unfolding end
-reached = played world script (atFirst world) fresh end (some-of (play world script (atFirst world)) (atFirst world) happens)
+unfolding plays end
+ends = record { log0 = refl; log3 = refl; key3 = refl; key0 = refl; held5 = refl; absent5 = refl; log14 = refl; counters14 = refl; results14 = refl; absent14 = refl; order = refl; taken = refl }
 
 pub witness : (w : World) × (c : Cluster) × Reached w c × Ends c
-witness = (world, end, reached, ends)
+unfolding end
+witness = (world, end, played-out world script happens, ends)
