@@ -50,7 +50,7 @@ module _ (w : World) where
   reached-ordered (then r s) = order-kept w (reached-kept w r) (reached-named r) (change-of w s) (reached-ordered r)
 
   pub coverage : (c : Cluster) → Reached w c → Coverage w c
-  coverage c r s s′ t u k v v′ h h′ ne cf = go (maj-meet (parts s t k v h here) (parts s′ u k v′ h′ (touched s′ u t k v′ h′ (conflict-turned k (w .pieces t) (w .pieces u) cf))))
+  coverage c r s s′ t u k v v′ h h′ ne cf = go (maj-meet (parts _ t k v h here) (parts _ u k v′ h′ (touched _ u t k v′ h′ (conflict-turned k (w .pieces t) (w .pieces u) cf))))
     where
       touched : (s t u k : ℕ) (v : Set) → Committed c s t v → conflict k (w .pieces t) (w .pieces u) ≡ true → has (touchedOf w t) k ≡ true
       touched s t u k v h cf =
@@ -58,7 +58,7 @@ module _ (w : World) where
           conflict-touches k (w .pieces t) (w .pieces u) (subst (λ (p : Pieces). piecesKept p ≡ true) (n .committed (h .holds)) (n .kept (h .holds))) cf
 
       here : has (touchedOf w t) k ≡ true
-      here = touched s t u k v h cf
+      here = touched _ t u k v h cf
 
       parts : (s t k : ℕ) (v : Set) → Committed c s t v → has (touchedOf w t) k ≡ true → Maj k (Part (sliceOf c t) (word v k))
       parts s t k v h z =

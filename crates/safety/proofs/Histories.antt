@@ -131,4 +131,4 @@ module _ (w : World) where
 pub agreement : (w : World) (c : Cluster) → Reached w c → Agreement c
 agreement w c r s s′ t v v′ h h′ =
     let l = reached-kept w r .lawful t in
-    chosen-agree l (l .committed .each v (CommitOf.held s (h .holds) (h .is))) (l .committed .each v′ (CommitOf.held s′ (h′ .holds) (h′ .is)))
+    chosen-agree l (l .committed .each v (CommitOf.held _ (h .holds) (h .is))) (l .committed .each v′ (CommitOf.held _ (h′ .holds) (h′ .is)))

@@ -140,4 +140,9 @@ reached-drives w fresh = first-drives w
 reached-drives w (then r s) = drives-kept w s (reached-drives w r)
 
 pub in-form : (w : World) (c : Cluster) → Reached w c → InForm c
-in-form w c r = record { servers = λ s. parts-formed (c .servers s) (reached-formal w r s .form); drives = reached-drives w r }
+in-form w c r = record {
+  servers = λ s. parts-formed (c .servers s) (reached-formal w r s .form);
+  records = reached-kept w r .sizes .records;
+  places = λ s. reached-formal w r s .places;
+  drives = reached-drives w r;
+}

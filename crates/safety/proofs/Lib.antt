@@ -29,6 +29,7 @@ pub mod Coverage
 pub mod InForm
 pub mod NeverOther
 pub mod Lists
+pub mod Places
 pub mod LogsInOrder
 pub mod RunsInOrder
 pub mod LogOrders
@@ -41,3 +42,4 @@ pub mod Scripts
 pub mod Witness
 pub mod Never13
 pub mod Theorem
+pub mod Plain

@@ -4,6 +4,7 @@ use mathlib.Core.Logic.{_⊎_, inl, inr}
 use mathlib.Core.Bool.{true}
 use mathlib.Core.List.{List, [], _++_, append-nil, List·Memᴰ, List·Memᴰ·not-nil}
 use Prim.Native.Nat.{ℕ, _<_}
+use native.Mathlib.Omega.{arith}
 use Rattle.masks.specs.Bits.{In}
 use Rattle.rules.specs.declared.Pieces.{Pieces}
 use Rattle.rules.specs.Pieces.{piecesKept}
@@ -20,14 +21,15 @@ use Rattle.safety.specs.Cluster.{World, Cluster, firstServer, atFirst, r
 use Rattle.safety.specs.Statements.{Committed, logOf, OneOrder, OrderGrows}
 use Rattle.drive.proofs.QuorumOfTwo.{shard-below}
 use Rattle.safety.proofs.View.{recordOf, put-same, put-all}
+use Rattle.safety.proofs.Histories.{reached-kept}
 use Rattle.safety.proofs.Changes.{Change, serves, hasRun, sent, quiet, change-of}
 use Rattle.safety.proofs.Coverage.{coverage}
 use Rattle.safety.proofs.Conflicts.{conflict-touches}
-use Rattle.safety.proofs.Lists.{earlier-fst, earlier-snd, earlier-nil, firsts-grows, firsts-old, firsts-new, completed-earlier, completed-all, completed-once}
+use Rattle.safety.proofs.Lists.{earlier-fst, earlier-snd, earlier-nil, firsts-grows, firsts-old, firsts-new, firsts-from, completed-earlier, completed-all, completed-once, completed-only}
 use Rattle.safety.proofs.LogsInOrder.{InOrder, more-order, firsts-order, same-order}
 use Rattle.safety.proofs.RunsInOrder.{Holds}
 use Rattle.safety.proofs.LogOrders.{LogOrders, reached-logs}
-use Rattle.safety.proofs.CommitsSent.{SentCommit, allDeps, deps-held, server-more, step-more}
+use Rattle.safety.proofs.CommitsSent.{SentCommit, allDeps, committed-small, deps-held, server-more, step-more}
 use Rattle.safety.proofs.Coverage.{reached-named}
 
 -- ---- the order of first runs
@@ -35,23 +37,31 @@ use Rattle.safety.proofs.Coverage.{reached-named}
 pub record History (c : Cluster) : Type 0 where
   pub order : InOrder (allDeps c) (SentCommit c) (c .order)
   pub logs : (s t : ℕ) → List·Memᴰ t (logOf c s) → List·Memᴰ t (c .order)
+  pub small : (t : ℕ) → List·Memᴰ t (c .order) → t < 64
 
 history-kept : (w : World) {c c′ : Cluster} → Reached w c → Reached w c′ → LogOrders c′ → Change w c c′ → History c → History c′
 unfolding ran
 history-kept w {c} {c′} r r′ lo (serves i m o rs p did) h = record {
   order = more-order (step-more w c c′ r r′ (serves i m o rs p did)) (h .order);
   logs = λ s t. put-all (λ s z. List·Memᴰ t (entries (z .log)) → List·Memᴰ t (c .order)) (c .servers) i _ (h .logs i t) (λ s. h .logs s t) s;
+  small = h .small;
 }
 history-kept w {c} {c′} r r′ lo (hasRun i q rn) h = record {
   order = firsts-order (c .order) (entries (q .server .log)) (more-order (step-more w c c′ r r′ (hasRun i q rn)) (h .order))
       (subst (λ (z : Server). InOrder (allDeps c′) (SentCommit c′) (entries (z .log))) (put-same (c .servers) i (q .server)) (more-order (server-more w c′ r′ i) (lo i)));
   logs = λ s t. put-all (λ s z. List·Memᴰ t (entries (z .log)) → List·Memᴰ t (firsts (c .order) (entries (q .server .log)))) (c .servers) i (q .server)
       (firsts-new (c .order) (entries (q .server .log)) t) (λ s k. firsts-old (c .order) (entries (q .server .log)) t (h .logs s t k)) s;
+  small = λ t m. below t (firsts-from (c .order) (entries (q .server .log)) t m);
 }
-history-kept w {c} {c′} r r′ lo (sent j d m at du) h = record { order = more-order (step-more w c c′ r r′ (sent j d m at du)) (h .order); logs = h .logs }
+  where
+    below : (t : ℕ) → List·Memᴰ t (c .order) ⊎ List·Memᴰ t (entries (q .server .log)) → t < 64
+    below t (inl k) = h .small t k
+    below t (inr k) = committed-small w c′ (reached-kept w r′) i t (lo i .committed t (subst (λ (z : Server). List·Memᴰ t (entries (z .log))) (sym (put-same (c .servers) i (q .server))) k))
+history-kept w {c} {c′} r r′ lo (sent j d m at du) h = record { order = more-order (step-more w c c′ r r′ (sent j d m at du)) (h .order); logs = h .logs; small = h .small }
 history-kept w {c} {c′} r r′ lo (quiet q) h = record {
   order = subst (InOrder (allDeps c′) (SentCommit c′)) (sym (q .order)) (more-order (step-more w c c′ r r′ (quiet q)) (h .order));
   logs = λ s t k. subst (List·Memᴰ t) (sym (q .order)) (h .logs s t (subst (λ (z : Server). List·Memᴰ t (entries (z .log))) (q .servers s) k));
+  small = λ t k. h .small t (subst (List·Memᴰ t) (q .order) k);
 }
 
 first-history : (w : World) → History (atFirst w)
@@ -59,6 +69,7 @@ unfolding atFirst firstServer freshServer entries
 first-history w = record {
   order = record { committed = λ t m. absurd (List·Memᴰ·not-nil m); before = λ t u m. absurd (List·Memᴰ·not-nil m); order = λ t u m. absurd (earlier-nil m); once = λ t m. earlier-nil m };
   logs = λ s t k. absurd (List·Memᴰ·not-nil k);
+  small = λ t k. absurd (List·Memᴰ·not-nil k);
 }
 
 pub reached-history : (w : World) {c : Cluster} → Reached w c → History c
@@ -69,7 +80,8 @@ reached-history w (then r s) = history-kept w r (then r s) (reached-logs w (then
 
 pub one-order : (w : World) (c : Cluster) → Reached w c → OneOrder w c
 one-order w c r = record {
-  all = completed-all (c .order) 64;
+  all = λ t l. completed-all (c .order) 64 t (omega arith);
+  only = λ t m. let l = completed-only (c .order) 64 (h .small) t m in omega arith;
   once = completed-once (c .order) 64 (h .order .once);
   runs = λ s t u k m cf. completed-earlier (c .order) 64 t u (runs s t u k m cf);
 }

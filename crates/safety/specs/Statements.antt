@@ -5,6 +5,7 @@ use mathlib.Core.Logic.{_⊎_, _≢_}
 use mathlib.Core.Bool.{true}
 use mathlib.Core.Option.{some}
 use mathlib.Core.List.{List, _++_, List·Memᴰ}
+use lib.ListN.{length}
 use Rattle.masks.specs.Bits.{In}
 use Rattle.rules.specs.declared.Set.{Set}
 use Rattle.rules.specs.Cluster.{NUMBERS}
@@ -46,6 +47,7 @@ Coverage w c =
 -- 3: one order of all numbers, in which every server ran its pairs in conflict: first the numbers that ran anywhere, as they first did, then the others, rising
 pub record OneOrder (w : World) (c : Cluster) : Type 0 where
   pub all : (t : ℕ) → t < NUMBERS → List·Memᴰ t (completed (c .order) NUMBERS)
+  pub only : (t : ℕ) → List·Memᴰ t (completed (c .order) NUMBERS) → t < NUMBERS
   pub once : (t : ℕ) → Earlier t t (completed (c .order) NUMBERS) → ⊥
   pub runs : (s t u k : ℕ) → Earlier t u (logOf c s) → conflict k (w .pieces t) (w .pieces u) ≡ true → Earlier t u (completed (c .order) NUMBERS)
 
@@ -66,9 +68,11 @@ pub record SameShown (w : World) (c : Cluster) (k s s′ : ℕ) : Type 0 where
 abbrev pub EqualCounters : World → Cluster → Type 0
 EqualCounters w c = (k s s′ : ℕ) → homeOf s ≡ k → homeOf s′ ≡ k → SameRan w c k s s′ → SameShown w c k s s′
 
--- 5: every server and every live drive is in form
+-- 5: every server and every live drive is in form; a server has a record for each number, and its log has as many places, as the types of these arrays say
 pub record InForm (c : Cluster) : Type 0 where
   pub servers : (s : ℕ) → S.formed (c .servers s) ≡ true
+  pub records : (s : ℕ) → length (c .servers s .records) ≡ NUMBERS
+  pub places : (s : ℕ) → length (c .servers s .log .list) ≡ NUMBERS
   pub drives : (j : ℕ) (d : Drive) → c .stations j ≡ some d → D.formed d ≡ true
 
 -- so that 13 is never given
