@@ -3,7 +3,7 @@ use mathlib.Core.Path.{_≡_, refl, ap}
 use mathlib.Core.Bool.{Bool, true, false, cond}
 use mathlib.Core.Option.{some}
 use mathlib.Core.List.{_∷_}
-use Prim.Native.Nat.{ℕ, _<_}
+use Prim.Native.Nat.{ℕ}
 use lib.Dec.{eqb}
 use Rattle.wire.specs.declared.Message.{Message}
 use Rattle.wire.specs.Messages.{blank}
@@ -40,9 +40,9 @@ abbrev pub withMessage : Cluster → Message → Cluster
 withMessage c m = record { servers = c .servers; stations = c .stations; taken = c .taken; sent = m ∷ c .sent; order = c .order }
 
 pub data Change (w : World) (c : Cluster) : Cluster → Type 0 where
-  serves : (i : ℕ) (m : Message) (o : Changed) → i < 12 → Reaches c m → Passed (c .servers i) m →
+  serves : (i : ℕ) (m : Message) (o : Changed) → Reaches c m → Passed (c .servers i) m →
       Did (c .servers i .id) (arrivalFor (c .servers i) m) (recordOf c i (m .t)) m o → Change w c (after c i (m .t) o)
-  hasRun : (i : ℕ) (r : Ran) → i < 12 → Runs (c .servers i) r → Change w c (ran c i r)
+  hasRun : (i : ℕ) (r : Ran) → Runs (c .servers i) r → Change w c (ran c i r)
   sent : (j : ℕ) (d : Drive) (m : Message) → c .stations j ≡ some d → Due d m → Change w c (withMessage c m)
   quiet : {c′ : Cluster} → Quiet c c′ → Change w c c′
 
@@ -59,13 +59,13 @@ began-quiet c j r = go (eqb (r .refusal) 0)
 
 pub change-of : (w : World) {c c′ : Cluster} → Next w c c′ → Change w c c′
 unfolding moved vanished asked due
-change-of w {c} (takes i m l r) = go (outcome c i m)
+change-of w {c} (takes i m may r) = go (outcome c i m)
   where
     go : {c′ : Cluster} → Outcome c i m c′ → Change w c c′
     go refuses = quiet (record { servers = put-all (λ s (x : Server). x ≡ c .servers s) (c .servers) i (c .servers i) refl (λ s. refl); sent = refl; order = refl })
-    go (took o p d) = serves i m o l r p d
-change-of w {c} (runs i l) = hasRun i (run (c .servers i)) l once
-change-of w {c} (runsOut i l) = hasRun i (runAll (c .servers i)) l out
+    go (took o p d) = serves i m o r p d
+change-of w {c} (runs i) = hasRun i (run (c .servers i)) once
+change-of w {c} (runsOut i) = hasRun i (runAll (c .servers i)) out
 change-of w {c} (sends j d at) = go (formed d) refl
   where
     go : (b : Bool) → formed d ≡ b → Change w c (asked c (cond b (record { refusal = 0; message = dueMessage d; servers = serversOf (touched d) }) (record { refusal = 13; message = blank; servers = 0 })))

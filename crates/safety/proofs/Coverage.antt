@@ -12,9 +12,10 @@ use Rattle.rules.specs.Pieces.{piecesKept}
 use Rattle.rules.specs.Conflict.{conflict}
 use Rattle.rules.specs.Sets.{word}
 use Rattle.server.specs.declared.Record.{Record}
+use Rattle.drive.proofs.QuorumOfTwo.{shard-below}
 use Rattle.safety.specs.Cluster.{World, Cluster, atFirst, Reached, fresh, then}
 use Rattle.safety.specs.Statements.{Committed, Coverage}
-use Rattle.safety.proofs.Quorum.{Maj, InShard, maj-meet, in-shard}
+use Rattle.safety.proofs.Quorum.{Maj, InShard, maj-meet, in-home}
 use Rattle.safety.proofs.Slice.{Part, Sub}
 use Rattle.safety.proofs.Agreement.{chosen-covers}
 use Rattle.safety.proofs.View.{CommitOf, sliceOf, touchedOf}
@@ -49,12 +50,15 @@ module _ (w : World) where
   reached-ordered (then r s) = order-kept w (reached-kept w r) (reached-named r) (change-of w s) (reached-ordered r)
 
   pub coverage : (c : Cluster) → Reached w c → Coverage w c
-  coverage c r s s′ t u k v v′ h h′ ne cf = go (maj-meet (parts s t k v h (touched s t u k v h cf)) (parts s′ u k v′ h′ (touched s′ u t k v′ h′ (conflict-turned k (w .pieces t) (w .pieces u) cf))))
+  coverage c r s s′ t u k v v′ h h′ ne cf = go (maj-meet (parts _ t k v h here) (parts _ u k v′ h′ (touched _ u t k v′ h′ (conflict-turned k (w .pieces t) (w .pieces u) cf))))
     where
       touched : (s t u k : ℕ) (v : Set) → Committed c s t v → conflict k (w .pieces t) (w .pieces u) ≡ true → has (touchedOf w t) k ≡ true
       touched s t u k v h cf =
           let n = reached-named r .records s t in
           conflict-touches k (w .pieces t) (w .pieces u) (subst (λ (p : Pieces). piecesKept p ≡ true) (n .committed (h .holds)) (n .kept (h .holds))) cf
+
+      here : has (touchedOf w t) k ≡ true
+      here = touched _ t u k v h cf
 
       parts : (s t k : ℕ) (v : Set) → Committed c s t v → has (touchedOf w t) k ≡ true → Maj k (Part (sliceOf c t) (word v k))
       parts s t k v h z =
@@ -66,4 +70,4 @@ module _ (w : World) where
       up x y f g (inr z) = inr (g .all t z)
 
       go : (s : ℕ) × InShard k s × Part (sliceOf c t) (word v k) s × Part (sliceOf c u) (word v′ k) s → In (word v k) u ⊎ In (word v′ k) t
-      go (s, i, p, q) = up (p .own) (q .own) (p .part) (q .part) (reached-ordered r s .each t u (p .own) (q .own) ne (p .holds) (q .holds) (subst (λ k. conflict k (w .pieces t) (w .pieces u) ≡ true) (sym (in-shard k s i)) cf))
+      go (s, i, p, q) = up (p .own) (q .own) (p .part) (q .part) (reached-ordered r s .each t u (p .own) (q .own) ne (p .holds) (q .holds) (subst (λ k. conflict k (w .pieces t) (w .pieces u) ≡ true) (sym (in-home k s (shard-below (w .pieces t) k here) i)) cf))

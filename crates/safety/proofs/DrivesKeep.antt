@@ -21,7 +21,7 @@ use Rattle.drive.specs.declared.Moved.{Moved}
 use Rattle.drive.specs.Held.{began as beginning}
 use Rattle.drive.specs.Hear.{moved as movedTo, refused}
 use Rattle.drive.specs.Host.{unless}
-use Rattle.safety.specs.Cluster.{World, Cluster, put, moved, began, vanished, ballotOf}
+use Rattle.safety.specs.Cluster.{World, Cluster, put, idOf, moved, began, vanished, ballotOf}
 use Rattle.safety.proofs.Summary.{Step}
 use Rattle.safety.proofs.Agreement.{lawful-kept}
 use Rattle.safety.proofs.View.{Said, sliceOf, touchedOf, put-same, put-other}
@@ -59,7 +59,7 @@ module _ (w : World) (c c′ : Cluster) (es : c′ .servers ≡ c .servers) (em 
 
   sizes-to : Sizes c → Sizes c′
   sizes-to sz = record {
-    ids = λ i. subst (λ (f : ℕ → Server). f i .id ≡ i) (sym es) (sz .ids i);
+    ids = λ i. subst (λ (f : ℕ → Server). f i .id ≡ idOf i) (sym es) (sz .ids i);
     records = λ i. subst (λ (f : ℕ → Server). length (f i .records) ≡ 64) (sym es) (sz .records i);
   }
 

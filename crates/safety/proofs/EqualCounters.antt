@@ -20,10 +20,9 @@ use Rattle.counters.specs.declared.Counter.{Counter}
 use Rattle.counters.specs.declared.Counters.{Counters}
 use Rattle.counters.specs.Effects.{zeroed, counterAt, execute}
 use Rattle.counters.proofs.PerKey.{keyEffect, counters-length, key-step, unwritten, same-results}
-use Rattle.rules.specs.Cluster.{shardOf}
 use Rattle.server.specs.Held.{recordAt}
 use Rattle.safety.specs.Orders.{Earlier, completed}
-use Rattle.safety.specs.Cluster.{World, Cluster, Reached}
+use Rattle.safety.specs.Cluster.{World, Cluster, homeOf, Reached}
 use Rattle.safety.specs.Statements.{logOf, OneOrder, EqualCounters}
 use Rattle.safety.proofs.Lists.{earlier-fst, earlier-snd, one-earlier}
 use Rattle.safety.proofs.Conflicts.{on-touches}
@@ -160,7 +159,7 @@ replay-length w k c [] = refl
 replay-length w k c (t ∷ l) = replay-length w k (execute (w .pieces t) k c .counters) l ∙ counters-length (w .pieces t) k c
 
 pub equal-counters : (w : World) (c : Cluster) → Reached w c → EqualCounters w c
-equal-counters w c r k s s′ l l′ e e′ sr = record { counters = counters; results = results }
+equal-counters w c r k s s′ e e′ sr = record { counters = counters; results = results }
   where
     W : List ℕ
     W = completed (c .order) 64
@@ -168,17 +167,17 @@ equal-counters w c r k s s′ l l′ e e′ sr = record { counters = counters; r
     oo : OneOrder w c
     oo = one-order w c r
 
-    placed : (s : ℕ) → s < 12 → Placed w k (place W) (logOf c s)
-    placed s l t u h cf = earlier-place W (oo .once) t u (oo .runs s t u k l h cf)
+    placed : (s : ℕ) → Placed w k (place W) (logOf c s)
+    placed s t u h cf = earlier-place W (oo .once) t u (oo .runs s t u k h cf)
 
-    once : (s t : ℕ) → s < 12 → Earlier t t (logOf c s) → ⊥
-    once s t l = reached-logs w r s l .once t
+    once : (s t : ℕ) → Earlier t t (logOf c s) → ⊥
+    once s t = reached-logs w r s .once t
 
     init : Counters
     init = w .counters k
 
-    rep : (s : ℕ) → s < 12 → shardOf s ≡ k → Replayed w k (c .servers s)
-    rep s l e = subst (λ k. Replayed w k (c .servers s)) e (reached-replayed w r s l)
+    rep : (s : ℕ) → homeOf s ≡ k → Replayed w k (c .servers s)
+    rep s e = subst (λ k. Replayed w k (c .servers s)) e (reached-replayed w r s)
 
     key-of : (x : ℕ) → x < 16 → (m : List ℕ) → counterAt (replay w k init m) x ≡ value w k x (counterAt init x) m
     key-of x h m = replay-key w k x m init (subst (λ n. x < n) (sym (w .sixteen k)) h)
@@ -190,14 +189,14 @@ equal-counters w c r k s s′ l l′ e e′ sr = record { counters = counters; r
         each x h =
             let q : x < 16 = subst (λ n. x < n) (replay-length w k init (logOf c s) ∙ w .sixteen k) h in
             key-of x q (logOf c s)
-            ∙ same-value w k (place W) x q (logOf c s) (logOf c s′) (placed s l) (placed s′ l′) (λ a z. sr .here a (writer-touches w k x a z)) (λ a z. sr .there a (writer-touches w k x a z)) (counterAt init x)
+            ∙ same-value w k (place W) x q (logOf c s) (logOf c s′) (placed s) (placed s′) (λ a z. sr .here a (writer-touches w k x a z)) (λ a z. sr .there a (writer-touches w k x a z)) (counterAt init x)
             ∙ sym (key-of x q (logOf c s′))
 
     counters : c .servers s .counters ≡ c .servers s′ .counters
-    counters = rep s l e .counters ∙ (λ i. record { list = lists i }) ∙ sym (rep s′ l′ e′ .counters)
+    counters = rep s e .counters ∙ (λ i. record { list = lists i }) ∙ sym (rep s′ e′ .counters)
 
     results : (t : ℕ) → List·Memᴰ t (logOf c s) → List·Memᴰ t (logOf c s′) → recordAt (c .servers s) t .values ≡ recordAt (c .servers s′) t .values
-    results t m m′ = rep s l e .results t m ∙ same-results (w .pieces t) k A B (replay-length w k init (until t (logOf c s)) ∙ sym (replay-length w k init (until t (logOf c s′)))) agree ∙ sym (rep s′ l′ e′ .results t m′)
+    results t m m′ = rep s e .results t m ∙ same-results (w .pieces t) k A B (replay-length w k init (until t (logOf c s)) ∙ sym (replay-length w k init (until t (logOf c s′)))) agree ∙ sym (rep s′ e′ .results t m′)
       where
         A : Counters
         A = replay w k init (until t (logOf c s))
@@ -205,8 +204,8 @@ equal-counters w c r k s s′ l l′ e e′ sr = record { counters = counters; r
         B : Counters
         B = replay w k init (until t (logOf c s′))
 
-        until-placed : (s : ℕ) → s < 12 → Placed w k (place W) (until t (logOf c s))
-        until-placed s l a b h = placed s l a b (until-earlier t (logOf c s) a b h)
+        until-placed : (s : ℕ) → Placed w k (place W) (until t (logOf c s))
+        until-placed s a b h = placed s a b (until-earlier t (logOf c s) a b h)
 
         agree : (i : ℕ) → i < 8 → onShard (w .pieces t) k i ≡ true → counterAt A (pieceAt (w .pieces t) i .key) ≡ counterAt B (pieceAt (w .pieces t) i .key)
         agree i q o = go (decLt (pieceAt (w .pieces t) i .key) 16)
@@ -223,9 +222,9 @@ equal-counters w c r k s s′ l l′ e e′ sr = record { counters = counters; r
             go : Dec (x < 16) → counterAt A x ≡ counterAt B x
             go (yes h) =
                 key-of x h (until t (logOf c s))
-                ∙ same-value w k (place W) x h (until t (logOf c s)) (until t (logOf c s′)) (until-placed s l) (until-placed s′ l′)
-                (before-too w k (place W) x h (logOf c s) (logOf c s′) (placed s l) (placed s′ l′) (sr .here) t on m m′ (once s t l) (once s′ t l′))
-                (before-too w k (place W) x h (logOf c s′) (logOf c s) (placed s′ l′) (placed s l) (sr .there) t on m′ m (once s′ t l′) (once s t l))
+                ∙ same-value w k (place W) x h (until t (logOf c s)) (until t (logOf c s′)) (until-placed s) (until-placed s′)
+                (before-too w k (place W) x h (logOf c s) (logOf c s′) (placed s) (placed s′) (sr .here) t on m m′ (once s t) (once s′ t))
+                (before-too w k (place W) x h (logOf c s′) (logOf c s) (placed s′) (placed s) (sr .there) t on m′ m (once s′ t) (once s t))
                 (counterAt init x)
                 ∙ sym (key-of x h (until t (logOf c s′)))
             go (no h) = past (until t (logOf c s)) (omega arith) ∙ sym (past (until t (logOf c s′)) (omega arith))

@@ -104,9 +104,9 @@ module _ (w : World) where
 
   pub next-kept : {c c′ : Cluster} → Next w c c′ → Kept w c → Kept w c′
   unfolding start recover again
-  next-kept {c} (takes i m l r) k = answered-kept w c i m r k
-  next-kept {c} (runs i l) k = ran-kept w c i (run (c .servers i)) (run-leaves (c .servers i)) k
-  next-kept {c} (runsOut i l) k = ran-kept w c i (runAll (c .servers i)) (runAll-leaves (c .servers i)) k
+  next-kept {c} (takes i m may r) k = answered-kept w c i m may r k
+  next-kept {c} (runs i) k = ran-kept w c i (run (c .servers i)) (run-leaves (c .servers i)) k
+  next-kept {c} (runsOut i) k = ran-kept w c i (runAll (c .servers i)) (runAll-leaves (c .servers i)) k
   next-kept {c} (sends j d at) k = asked-kept w c j d at k
   next-kept {c} (hears j d m at h) k = moved-kept w c j d (hear d m) at k (hear-follows w c d (k .drives j d at) (k .lawful (d .t)) m h)
   next-kept {c} (movesOn j d at) k = moved-kept w c j d (moveOn d) at k (moveOn-follows w c d (k .drives j d at) (k .lawful (d .t)))
@@ -131,4 +131,4 @@ module _ (w : World) where
 pub agreement : (w : World) (c : Cluster) → Reached w c → Agreement c
 agreement w c r s s′ t v v′ h h′ =
     let l = reached-kept w r .lawful t in
-    chosen-agree l (l .committed .each v (CommitOf.held s (h .holds) (h .is))) (l .committed .each v′ (CommitOf.held s′ (h′ .holds) (h′ .is)))
+    chosen-agree l (l .committed .each v (CommitOf.held _ (h .holds) (h .is))) (l .committed .each v′ (CommitOf.held _ (h′ .holds) (h′ .is)))

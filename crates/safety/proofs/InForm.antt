@@ -29,7 +29,7 @@ use Rattle.drive.specs.Form as D
 use Rattle.drive.specs.Hear.{hear}
 use Rattle.drive.specs.Host.{start, recover, again, moveOn}
 use Rattle.drive.proofs.KeepsForm.{hear-keeps-form, moveOn-keeps-form, start-makes-form, recover-makes-form, again-makes-form}
-use Rattle.safety.specs.Cluster.{World, Cluster, put, firstServer, atFirst, answered, ran, asked, moved, began, vanished, ballotOf, Next, takes, runs, runsOut, sends, hears, movesOn, starts, recovers, triesAgain, vanishes, Reached, fresh, then}
+use Rattle.safety.specs.Cluster.{World, Cluster, put, idOf, firstServer, atFirst, answered, ran, asked, moved, began, vanished, ballotOf, Next, takes, runs, runsOut, sends, hears, movesOn, starts, recovers, triesAgain, vanishes, Reached, fresh, then}
 use Rattle.safety.specs.Statements.{InForm}
 use Rattle.safety.proofs.Agreement.{chosen-covers}
 use Rattle.safety.proofs.View.{CommitOf, recordOf, put-all}
@@ -61,7 +61,7 @@ pub record Formal (z : Server) : Type 0 where
   pub places : length (z .log .list) ≡ 64
 
 abbrev pub AllFormal : Cluster → Type 0
-AllFormal c = (s : ℕ) → s < 12 → Formal (c .servers s)
+AllFormal c = (s : ℕ) → Formal (c .servers s)
 
 pub sound-of : (w : World) (c : Cluster) → Kept w c → (s : ℕ) → Formal (c .servers s) → Sound (c .servers s)
 sound-of w c k s f = record { memory = record { records = k .sizes .records s; log = f .places; words = deps-fit w c k s }; form = f .form }
@@ -72,17 +72,17 @@ runs-formal {s} out h = let z = runAll-sound s h in record { form = z .form; pla
 
 formal-kept : (w : World) {c c′ : Cluster} → Kept w c → Change w c c′ → AllFormal c → AllFormal c′
 unfolding ran
-formal-kept w {c} k (serves i m o l rs p did) f =
-    put-all (λ s z. s < 12 → Formal z) (c .servers) i _ (λ q. record { form = after-form (c .servers i) m o p did (k .sizes .records i); places = f i l .places }) f
-formal-kept w {c} k (hasRun i r l rn) f = put-all (λ s z. s < 12 → Formal z) (c .servers) i (r .server) (λ q. runs-formal rn (sound-of w c k i (f i l))) f
+formal-kept w {c} k (serves i m o rs p did) f =
+    put-all (λ s z. Formal z) (c .servers) i _ (record { form = after-form (c .servers i) m o p did (k .sizes .records i); places = f i .places }) f
+formal-kept w {c} k (hasRun i r rn) f = put-all (λ s z. Formal z) (c .servers) i (r .server) (runs-formal rn (sound-of w c k i (f i))) f
 formal-kept w k (sent j d m at du) f = f
-formal-kept w k (quiet q) f = λ s l. subst Formal (sym (q .servers s)) (f s l)
+formal-kept w k (quiet q) f = λ s. subst Formal (sym (q .servers s)) (f s)
 
 module _ (w : World) where
   first-formal : AllFormal (atFirst w)
   unfolding atFirst firstServer freshServer
-  first-formal s l =
-      let z = fresh-sound s (atFirst w .servers s .counters) (le-ltb 11 s (omega arith)) in
+  first-formal s =
+      let z = fresh-sound (idOf s) (atFirst w .servers s .counters) (le-ltb 11 (idOf s) (omega arith)) in
       record { form = z .form; places = z .memory .log }
 
   pub reached-formal : {c : Cluster} → Reached w c → AllFormal c
@@ -117,8 +117,8 @@ began-formed c j r h f = go (eqb (r .refusal) 0) refl
 drives-kept : (w : World) {c c′ : Cluster} → Next w c c′ → AllDrives c → AllDrives c′
 unfolding answered ran asked vanished
 drives-kept w (takes i m l r) f = f
-drives-kept w (runs i l) f = f
-drives-kept w (runsOut i l) f = f
+drives-kept w (runs i) f = f
+drives-kept w (runsOut i) f = f
 drives-kept w (sends j d at) f = f
 drives-kept w {c} (hears j d m at k) f = moved-formed c j (hear d m) (hear-keeps-form d m (f j d at)) f
 drives-kept w {c} (movesOn j d at) f = moved-formed c j (moveOn d) (moveOn-keeps-form d (f j d at)) f
@@ -140,4 +140,9 @@ reached-drives w fresh = first-drives w
 reached-drives w (then r s) = drives-kept w s (reached-drives w r)
 
 pub in-form : (w : World) (c : Cluster) → Reached w c → InForm c
-in-form w c r = record { servers = λ s l. parts-formed (c .servers s) (reached-formal w r s l .form); drives = reached-drives w r }
+in-form w c r = record {
+  servers = λ s. parts-formed (c .servers s) (reached-formal w r s .form);
+  records = reached-kept w r .sizes .records;
+  places = λ s. reached-formal w r s .places;
+  drives = reached-drives w r;
+}

@@ -11,16 +11,16 @@ use Rattle.rules.specs.declared.Set.{Set}
 use Rattle.wire.specs.Codes.{PreAcceptOK}
 use Rattle.drive.specs.declared.Answer.{Answer}
 use Rattle.drive.specs.declared.Drive.{Drive}
-use Rattle.safety.specs.Cluster.{World, Cluster, ballotOf}
+use Rattle.safety.specs.Cluster.{World, Cluster, idOf, ballotOf}
 use Rattle.safety.proofs.Slice.{Slice}
 use Rattle.safety.proofs.Summary.{Step, free-stays, proposal-stays, chosen-stays}
 use Rattle.safety.proofs.Agreement.{Lawful, lawful-kept}
 use Rattle.safety.proofs.View.{sliceOf, touchedOf}
 use Rattle.safety.proofs.DriveIn.{Heard, DriveIn}
 
--- the servers' names and sizes
+-- the servers' ids and sizes
 pub record Sizes (c : Cluster) : Type 0 where
-  pub ids : (i : ℕ) → c .servers i .id ≡ i
+  pub ids : (i : ℕ) → c .servers i .id ≡ idOf i
   pub records : (i : ℕ) → length (c .servers i .records) ≡ 64
 
 -- each ballot of a number is held by one drive at most, and was taken; what was proposed was at a ballot taken

@@ -139,6 +139,19 @@ unfolding firsts
 firsts-new o (t ∷ l) u (List·Memᴰ·head e) = firsts-old (noting t o) l u (subst (λ x. List·Memᴰ x (noting t o)) (sym e) (noted-new (noted t o)))
 firsts-new o (t ∷ l) u (List·Memᴰ·tail k) = firsts-new (noting t o) l u k
 
+pub firsts-from : (o l : List ℕ) (u : ℕ) → List·Memᴰ u (firsts o l) → List·Memᴰ u o ⊎ List·Memᴰ u l
+unfolding firsts
+firsts-from o [] u h = inl h
+firsts-from o (t ∷ l) u h = go (firsts-from (noting t o) l u h)
+  where
+    was : List·Memᴰ u o ⊎ (u ≡ t) → List·Memᴰ u o ⊎ List·Memᴰ u (t ∷ l)
+    was (inl k) = inl k
+    was (inr e) = inr (List·Memᴰ·head e)
+
+    go : List·Memᴰ u (noting t o) ⊎ List·Memᴰ u l → List·Memᴰ u o ⊎ List·Memᴰ u (t ∷ l)
+    go (inl k) = was (noted-from (noted t o) k)
+    go (inr k) = inr (List·Memᴰ·tail k)
+
 -- ---- all numbers
 
 pub completed-earlier : (o : List ℕ) (n a b : ℕ) → Earlier a b o → Earlier a b (completed o n)
@@ -159,3 +172,31 @@ pub completed-once : (o : List ℕ) (n : ℕ) → ((a : ℕ) → Earlier a a o �
 unfolding completed
 completed-once o zero f = f
 completed-once o (suc n) f = noted-once (noted n (completed o n)) (completed-once o n f)
+
+completed-from : (o : List ℕ) (n t : ℕ) → List·Memᴰ t (completed o n) → List·Memᴰ t o ⊎ (t < n)
+unfolding completed
+completed-from o zero t h = inl h
+completed-from o (suc n) t h = go (noted-from (noted n (completed o n)) h) (completed-from o n t)
+  where
+    up : List·Memᴰ t o ⊎ (t < n) → List·Memᴰ t o ⊎ (t < suc n)
+    up (inl k) = inl k
+    up (inr l) = inr (omega arith)
+
+    go : List·Memᴰ t (completed o n) ⊎ (t ≡ n) → (List·Memᴰ t (completed o n) → List·Memᴰ t o ⊎ (t < n)) → List·Memᴰ t o ⊎ (t < suc n)
+    go (inl k) ih = up (ih k)
+    go (inr e) ih = inr (omega arith)
+
+pub completed-only : (o : List ℕ) (n : ℕ) → ((t : ℕ) → List·Memᴰ t o → t < n) → (t : ℕ) → List·Memᴰ t (completed o n) → t < n
+completed-only o n f t h = go (completed-from o n t h)
+  where
+    go : List·Memᴰ t o ⊎ (t < n) → t < n
+    go (inl k) = f t k
+    go (inr l) = l
+
+pub completed-grows : (o : List ℕ) (n : ℕ) → (l : List ℕ) × (completed o n ≡ o ++ l)
+unfolding completed
+completed-grows o zero = ([], sym (append-nil o))
+completed-grows o (suc n) =
+    let a = completed-grows o n in
+    let b = noted-grows (noted n (completed o n)) in
+    (a .0 ++ b .0, b .1 ∙ ap (λ (z : List ℕ). z ++ b .0) (a .1) ∙ append-assoc o (a .0) (b .0))

@@ -22,11 +22,10 @@ use Rattle.server.proofs.ServeKeepsForm.{did-committed}
 use Rattle.server.proofs.RunKeepsForm.{deps-at}
 use Rattle.safety.specs.Orders.{entries}
 use Rattle.safety.specs.Cluster.{World, Cluster, firstServer, atFirst, ran, Reached, fresh, then}
-use Rattle.safety.proofs.View.{recordOf, put-all}
+use Rattle.safety.proofs.View.{put-all}
 use Rattle.safety.proofs.Kept.{Kept}
 use Rattle.safety.proofs.Histories.{reached-kept}
 use Rattle.safety.proofs.Changes.{Runs, once, out, Change, serves, hasRun, sent, quiet, change-of}
-use Rattle.safety.proofs.PiecesNamed.{runs-leave}
 use Rattle.safety.proofs.InForm.{AllFormal, sound-of, reached-formal}
 use Rattle.safety.proofs.Lists.{earlier-nil}
 use Rattle.safety.proofs.LogsInOrder.{InOrder, more-order}
@@ -44,27 +43,14 @@ deps-same z z′ t e = go (decLt t 64)
         past : (z : Server) → getD (tab (depsAt z) 64) t 0 ≡ 0
         past z = List·getD-eq-default (tab (depsAt z) 64) 0 (subst (λ n. n ≤ t) (sym (length-tab (depsAt z) 64)) (omega arith))
 
--- a committed set stays
-pub commits-stay : (w : World) {c c′ : Cluster} → Change w c c′ → (s t : ℕ) → committedAt (c .servers s) t ≡ true → recordOf c′ s t .committed ≡ recordOf c s t .committed
-unfolding ran
-commits-stay w {c} (serves i m o l rs p did) s t =
-    put-all (λ s z. committedAt (c .servers s) t ≡ true → recordAt z t .committed ≡ recordAt (c .servers s) t .committed) (c .servers) i _
-    (λ e. set-either (λ v. v .committed ≡ recordAt (c .servers i) t .committed) (c .servers i .records) (m .t) t (o .after) noRecord refl
-    (λ z. ap (λ (v : Record). v .committed) (did-committed did (subst (λ x. committedAt (c .servers i) x ≡ true) z e)) ∙ ap (λ x. recordAt (c .servers i) x .committed) (sym z)))
-    (λ s e. refl) s
-commits-stay w {c} (hasRun i r l rn) s t =
-    put-all (λ s z. committedAt (c .servers s) t ≡ true → recordAt z t .committed ≡ recordAt (c .servers s) t .committed) (c .servers) i (r .server) (λ e. runs-leave rn .held t .committed) (λ s e. refl) s
-commits-stay w (sent j d m at du) s t = λ e. refl
-commits-stay w (quiet q) s t = λ e. ap (λ (z : Server). recordAt z t .committed) (q .servers s)
-
-pub still-committed : {v v′ : MaybeSet} → v′ ≡ v → there (v .some) ≡ true → there (v′ .some) ≡ true
+still-committed : {v v′ : MaybeSet} → v′ ≡ v → there (v .some) ≡ true → there (v′ .some) ≡ true
 still-committed e h = ap (λ (v : MaybeSet). there (v .some)) e ∙ h
 
 abbrev pub LogOrder : Server → Type 0
 LogOrder z = InOrder (depsOf z) (Holds z) (entries (z .log))
 
 abbrev pub LogOrders : Cluster → Type 0
-LogOrders c = (s : ℕ) → s < 12 → LogOrder (c .servers s)
+LogOrders c = (s : ℕ) → LogOrder (c .servers s)
 
 runs-order : {s : Server} {r : Ran} → Runs s r → Orderly s → LogOrder (r .server)
 runs-order {s} once h = run-orderly s h .order
@@ -72,21 +58,21 @@ runs-order {s} out h = runAll-orderly s h .order
 
 logs-kept : (w : World) {c c′ : Cluster} → Kept w c → AllFormal c → Change w c c′ → LogOrders c → LogOrders c′
 unfolding ran
-logs-kept w {c} k f (serves i m o l rs p did) lo =
-    put-all (λ s z. s < 12 → LogOrder z) (c .servers) i _
-    (λ q. more-order (record { still = λ t e. still-committed (stay t e) e; same = λ t e. deps-same (c .servers i) _ t (stay t e) }) (lo i q)) lo
+logs-kept w {c} k f (serves i m o rs p did) lo =
+    put-all (λ s z. LogOrder z) (c .servers) i _
+    (more-order (record { still = λ t e. still-committed (stay t e) e; same = λ t e. deps-same (c .servers i) _ t (stay t e) }) (lo i)) lo
   where
     stay : (t : ℕ) → committedAt (c .servers i) t ≡ true → getD (set (c .servers i .records) (m .t) (o .after)) t noRecord .committed ≡ recordAt (c .servers i) t .committed
     stay t e = set-either (λ v. v .committed ≡ recordAt (c .servers i) t .committed) (c .servers i .records) (m .t) t (o .after) noRecord refl
         (λ z. ap (λ (v : Record). v .committed) (did-committed did (subst (λ x. committedAt (c .servers i) x ≡ true) z e)) ∙ ap (λ x. recordAt (c .servers i) x .committed) (sym z))
-logs-kept w {c} k f (hasRun i r l rn) lo = put-all (λ s z. s < 12 → LogOrder z) (c .servers) i (r .server) (λ q. runs-order rn (record { sound = sound-of w c k i (f i l); order = lo i l })) lo
+logs-kept w {c} k f (hasRun i r rn) lo = put-all (λ s z. LogOrder z) (c .servers) i (r .server) (runs-order rn (record { sound = sound-of w c k i (f i); order = lo i })) lo
 logs-kept w k f (sent j d m at du) lo = lo
-logs-kept w k f (quiet q) lo = λ s l. subst LogOrder (sym (q .servers s)) (lo s l)
+logs-kept w k f (quiet q) lo = λ s. subst LogOrder (sym (q .servers s)) (lo s)
 
 module _ (w : World) where
   first-logs : LogOrders (atFirst w)
   unfolding atFirst firstServer freshServer entries
-  first-logs s l = record { committed = λ t m. absurd (List·Memᴰ·not-nil m); before = λ t u m. absurd (List·Memᴰ·not-nil m); order = λ t u m. absurd (earlier-nil m); once = λ t m. earlier-nil m }
+  first-logs s = record { committed = λ t m. absurd (List·Memᴰ·not-nil m); before = λ t u m. absurd (List·Memᴰ·not-nil m); order = λ t u m. absurd (earlier-nil m); once = λ t m. earlier-nil m }
 
   pub reached-logs : {c : Cluster} → Reached w c → LogOrders c
   reached-logs fresh = first-logs

@@ -21,7 +21,6 @@ use Rattle.server.specs.declared.Record.{Record}
 use Rattle.server.specs.declared.Server.{Server}
 use Rattle.server.specs.Held.{recordAt}
 use Rattle.server.specs.declared.Ran.{Ran}
-use Rattle.server.specs.Serve.{arrivalFor}
 use Rattle.server.proofs.Passed.{number-below}
 use Rattle.server.proofs.Did.{Did, tells, isDone, preAcceptsFirst, preAcceptsAgain, accepts, prepares, commitsFirst}
 use Rattle.server.proofs.RunLeaves.{SameHeld, Leaves, run-leaves, runAll-leaves}
@@ -53,7 +52,7 @@ named-same {w} {t} e n = record {
   kept = λ h. subst (λ (p : Pieces). piecesKept p ≡ true) (sym (e .pieces)) (n .kept (ap (λ (a : MaybeSet). there (a .some)) (sym (e .committed)) ∙ h));
 }
 
-module _ (w : World) (c : Cluster) (na : Named w c) (i x : ℕ) (m : Message) (rs : Reaches c m) where
+module _ (w : World) (c : Cluster) (na : Named w c) (i id x : ℕ) (m : Message) (rs : Reaches c m) where
   -- the pieces of a message that asks or commits
   of-code : (k : ℕ) → m .code ≡ k → shapeOf k .pieces ≡ true → k ≢ 4 → k ≢ 5 → m .pieces ≡ w .pieces (m .t)
   of-code k e h n4 n5 = na .messages m (was-sent rs (λ z. n4 (sym e ∙ z)) (λ z. n5 (sym e ∙ z))) (subst (λ n. shapeOf n .pieces ≡ true) (sym e) h)
@@ -85,7 +84,7 @@ module _ (w : World) (c : Cluster) (na : Named w c) (i x : ℕ) (m : Message) (r
   opened : {v : Record} → v .pieces ≡ w .pieces (m .t) → there (v .committed .some) ≡ false → NamedRecord w (m .t) v
   opened e n = record { any = λ h. e; arrived = λ h. e; committed = λ h. e; kept = λ h. absurd (true-and-false h n) }
 
-  did-named : {o : Changed} → badPieces m ≡ false → Did i x (recordOf c i (m .t)) m o → NamedRecord w (m .t) (o .after)
+  did-named : {o : Changed} → badPieces m ≡ false → Did id x (recordOf c i (m .t)) m o → NamedRecord w (m .t) (o .after)
   did-named h (tells r p) = na .records i (m .t)
   did-named h (isDone e) = na .records i (m .t)
   did-named h (preAcceptsFirst k op n) = opened (asked-pieces (inl k)) (op .uncommitted)
@@ -96,7 +95,7 @@ module _ (w : World) (c : Cluster) (na : Named w c) (i x : ℕ) (m : Message) (r
       let e = commit-pieces (commit-code k) in
       record { any = λ z. e; arrived = λ z. e; committed = λ z. e; kept = λ z. commit-kept h (commit-code k) }
 
-  did-reply : {o : Changed} → Did i x (recordOf c i (m .t)) m o → shapeOf (o .reply .code) .pieces ≡ true → o .reply .pieces ≡ w .pieces (o .reply .t)
+  did-reply : {o : Changed} → Did id x (recordOf c i (m .t)) m o → shapeOf (o .reply .code) .pieces ≡ true → o .reply .pieces ≡ w .pieces (o .reply .t)
   unfolding shapeOf
   did-reply (tells r p) h = absurd (true-and-false h (p .bare))
   did-reply (isDone e) h = na .records i (m .t) .committed e
@@ -120,18 +119,15 @@ runs-leave {s} out = runAll-leaves s
 
 pub named-kept : (w : World) {c c′ : Cluster} → Kept w c → Change w c c′ → Named w c → Named w c′
 unfolding ran
-named-kept w {c} k (serves i m o l rs p did) na = record {
-  records = all-records c i (m .t) o (let n = number-below m (p .numbers) in omega (arith, k .sizes .records i)) (λ s t v. NamedRecord w t v) (did-named w c na i _ m rs (p .pieces) here) (na .records);
+named-kept w {c} k (serves i m o rs p did) na = record {
+  records = all-records c i (m .t) o (let n = number-below m (p .numbers) in omega (arith, k .sizes .records i)) (λ s t v. NamedRecord w t v) (did-named w c na i _ _ m rs (p .pieces) did) (na .records);
   messages = λ r h. new r (List·Memᴰ·cases-cons h);
 }
   where
-    here : Did i (arrivalFor (c .servers i) m) (recordOf c i (m .t)) m o
-    here = subst (λ n. Did n (arrivalFor (c .servers i) m) (recordOf c i (m .t)) m o) (k .sizes .ids i) did
-
     new : (r : Message) → (r ≡ o .reply) ⊎ List·Memᴰ r (c .sent) → shapeOf (r .code) .pieces ≡ true → r .pieces ≡ w .pieces (r .t)
-    new r (inl e) = subst (λ (r : Message). shapeOf (r .code) .pieces ≡ true → r .pieces ≡ w .pieces (r .t)) (sym e) (did-reply w c na i _ m rs here)
+    new r (inl e) = subst (λ (r : Message). shapeOf (r .code) .pieces ≡ true → r .pieces ≡ w .pieces (r .t)) (sym e) (did-reply w c na i _ _ m rs did)
     new r (inr h) = na .messages r h
-named-kept w {c} k (hasRun i r l rn) na = record {
+named-kept w {c} k (hasRun i r rn) na = record {
   records = λ s t. put-all (λ s x. NamedRecord w t (recordAt x t)) (c .servers) i (r .server) (named-same (runs-leave rn .held t) (na .records i t)) (λ s. na .records s t) s;
   messages = na .messages;
 }

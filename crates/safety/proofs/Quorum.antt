@@ -1,8 +1,9 @@
 -- Three servers to a shard: any two majorities of a shard share a server. Assumes nothing.
 use mathlib.Core.Path.{_≡_, refl, sym, subst}
-use Prim.Native.Nat.{ℕ, _/_}
+use Prim.Native.Nat.{ℕ, _<_}
 use native.Mathlib.Omega.{arith}
 use Rattle.rules.specs.Cluster.{serverOf}
+use Rattle.safety.specs.Cluster.{homeOf}
 
 -- P holds of two of the three servers of shard k
 pub data Maj (k : ℕ) (P : ℕ → Type 0) : Type 0 where
@@ -55,7 +56,8 @@ all-maj a = m01 (a .a0) (a .a1)
 pub all-map : {k : ℕ} {P Q : ℕ → Type 0} → ((s : ℕ) → P s → Q s) → All3 k P → All3 k Q
 all-map f a = record { a0 = f _ (a .a0); a1 = f _ (a .a1); a2 = f _ (a .a2) }
 
-pub in-shard : (k s : ℕ) → InShard k s → s / 3 ≡ k
-in-shard k s (i0 e) = omega arith
-in-shard k s (i1 e) = omega arith
-in-shard k s (i2 e) = omega arith
+-- the three are servers of the shard
+pub in-home : (k s : ℕ) → k < 4 → InShard k s → homeOf s ≡ k
+in-home k s l (i0 e) = omega arith
+in-home k s l (i1 e) = omega arith
+in-home k s l (i2 e) = omega arith

@@ -3,7 +3,7 @@ use mathlib.Core.Path.{_≡_, refl, sym, _∙_, ap, subst}
 use mathlib.Core.Logic.{_⊎_, inl, inr}
 use mathlib.Core.Bool.{Bool, true, false, cond}
 use mathlib.Core.List.{List, [], _∷_, _++_, List·Memᴰ, List·Memᴰ·not-nil, List·Memᴰ·append-cases, List·Memᴰ·eq-of-singleton}
-use Prim.Native.Nat.{ℕ, _<_}
+use Prim.Native.Nat.{ℕ}
 use native.Mathlib.Omega.{arith}
 use lib.ListN.{length, getD, set, length-set}
 use lib.Seq.{getD-set-same, getD-set-other}
@@ -27,7 +27,7 @@ use Rattle.server.proofs.RunsOneByOne.{May, ran-keeps, Logs, logs-more, list-mo
 use Rattle.server.proofs.RunKeepsForm.{Sound, logs-formed, group-sound, way}
 use Rattle.server.proofs.ServeKeepsForm.{did-committed}
 use Rattle.safety.specs.Orders.{entries}
-use Rattle.safety.specs.Cluster.{World, Cluster, firstServer, atFirst, ran, Reached, fresh, then}
+use Rattle.safety.specs.Cluster.{World, Cluster, homeOf, firstServer, atFirst, ran, Reached, fresh, then}
 use Rattle.safety.proofs.View.{put-all}
 use Rattle.safety.proofs.Kept.{Kept}
 use Rattle.safety.proofs.Histories.{reached-kept}
@@ -138,29 +138,29 @@ runs-replayed w k {z} out h = go (formed z)
 -- ---- histories
 
 abbrev pub AllReplayed : World → Cluster → Type 0
-AllReplayed w c = (s : ℕ) → s < 12 → Replayed w (shardOf s) (c .servers s)
+AllReplayed w c = (s : ℕ) → Replayed w (homeOf s) (c .servers s)
 
 replayed-kept : (w : World) {c c′ : Cluster} → Kept w c → Named w c → AllFormal c → LogOrders c → Change w c c′ → AllReplayed w c → AllReplayed w c′
 unfolding ran
-replayed-kept w {c} k na f lo (serves i m o l rs p did) a =
-    put-all (λ s z. s < 12 → Replayed w (shardOf s) z) (c .servers) i _
-    (λ q. record {
-      counters = a i q .counters;
-      results = λ u h. ap (λ (v : Record). v .values) (same u (lo i q .committed u h)) ∙ a i q .results u h;
+replayed-kept w {c} k na f lo (serves i m o rs p did) a =
+    put-all (λ s z. Replayed w (homeOf s) z) (c .servers) i _
+    (record {
+      counters = a i .counters;
+      results = λ u h. ap (λ (v : Record). v .values) (same u (lo i .committed u h)) ∙ a i .results u h;
     }) a
   where
     same : (u : ℕ) → committedAt (c .servers i) u ≡ true → getD (set (c .servers i .records) (m .t) (o .after)) u noRecord ≡ recordAt (c .servers i) u
     same u e = set-either (λ v. v ≡ recordAt (c .servers i) u) (c .servers i .records) (m .t) u (o .after) noRecord refl
         (λ z. did-committed did (subst (λ x. committedAt (c .servers i) x ≡ true) z e) ∙ ap (recordAt (c .servers i)) (sym z))
-replayed-kept w {c} k na f lo (hasRun i r l rn) a =
-    put-all (λ s z. s < 12 → Replayed w (shardOf s) z) (c .servers) i (r .server)
-    (λ q. runs-replayed w (shardOf i) rn (record { sound = sound-of w c k i (f i q); own = ap shardOf (k .sizes .ids i); named = λ u e. na .records i u .committed e; replayed = a i q })) a
+replayed-kept w {c} k na f lo (hasRun i r rn) a =
+    put-all (λ s z. Replayed w (homeOf s) z) (c .servers) i (r .server)
+    (runs-replayed w (homeOf i) rn (record { sound = sound-of w c k i (f i); own = ap shardOf (k .sizes .ids i); named = λ u e. na .records i u .committed e; replayed = a i })) a
 replayed-kept w k na f lo (sent j d m at du) a = a
-replayed-kept w k na f lo (quiet q) a = λ s l. subst (Replayed w (shardOf s)) (sym (q .servers s)) (a s l)
+replayed-kept w k na f lo (quiet q) a = λ s. subst (Replayed w (homeOf s)) (sym (q .servers s)) (a s)
 
 first-replayed : (w : World) → AllReplayed w (atFirst w)
 unfolding atFirst firstServer freshServer entries replay
-first-replayed w s l = record { counters = refl; results = λ u h. absurd (List·Memᴰ·not-nil h) }
+first-replayed w s = record { counters = refl; results = λ u h. absurd (List·Memᴰ·not-nil h) }
 
 pub reached-replayed : (w : World) {c : Cluster} → Reached w c → AllReplayed w c
 reached-replayed w fresh = first-replayed w

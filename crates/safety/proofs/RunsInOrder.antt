@@ -2,7 +2,7 @@
 use mathlib.Core.Path.{_≡_, refl, sym, _∙_, ap, subst}
 use mathlib.Core.Logic.{_⊎_, inl, inr}
 use mathlib.Core.Bool.{Bool, true, false, cond}
-use mathlib.Core.List.{List, [], _∷_, _++_, List·Memᴰ, List·Memᴰ·head, List·Memᴰ·tail, List·Memᴰ·cases-cons, List·Memᴰ·not-nil, List·Memᴰ·append-cases, List·Memᴰ·eq-of-singleton}
+use mathlib.Core.List.{List, [], _∷_, _++_, List·Memᴰ, List·Memᴰ·not-nil, List·Memᴰ·append-cases, List·Memᴰ·eq-of-singleton}
 use Prim.Native.Nat.{ℕ, zero, suc, _≤_, _<_}
 use native.Mathlib.Omega.{arith}
 use lib.ListN.{length, getD, take}
@@ -29,6 +29,7 @@ use Rattle.server.proofs.RunsOneByOne.{rising}
 use Rattle.server.proofs.RunKeepsForm.{Memory, Sound, next-committed, next-unrun, group-sound, way, in-log, log-in, kept-after, same-committed}
 use Rattle.safety.specs.Orders.{entries, Earlier, first, later}
 use Rattle.safety.proofs.Lists.{earlier-fst, earlier-snd, earlier-nil, Split, earlier-split}
+use Rattle.safety.proofs.Places.{take-mem, mem-take}
 use Rattle.safety.proofs.LogsInOrder.{InOrder, more-order}
 
 -- ---- the numbers of a word, rising
@@ -66,21 +67,6 @@ rising-earlier g (suc n) a b h = go (has g n) h (rising-earlier g n a b)
     go false k ih = ih k
 
 -- ---- a log as a list and as a word
-
-take-mem : (l : List ℕ) (n t : ℕ) → List·Memᴰ t (take n l) → (i : ℕ) × (i < n) × (i < length l) × (getD l i 0 ≡ t)
-take-mem l zero t k = absurd (List·Memᴰ·not-nil k)
-take-mem [] (suc n) t k = absurd (List·Memᴰ·not-nil k)
-take-mem (x ∷ l) (suc n) t k = go (List·Memᴰ·cases-cons k) (take-mem l n t)
-  where
-    go : (t ≡ x) ⊎ List·Memᴰ t (take n l) → (List·Memᴰ t (take n l) → (i : ℕ) × (i < n) × (i < length l) × (getD l i 0 ≡ t)) → (i : ℕ) × (i < suc n) × (i < length (x ∷ l)) × (getD (x ∷ l) i 0 ≡ t)
-    go (inl e) ih = (0, omega arith, omega arith, sym e)
-    go (inr h) ih = let r = ih h in let a = r .1 in let b = r .2 in (suc (r .0), omega arith, omega arith, r .3)
-
-mem-take : (l : List ℕ) (n i : ℕ) → i < n → i < length l → List·Memᴰ (getD l i 0) (take n l)
-mem-take l zero i h q = absurd (omega arith)
-mem-take [] (suc n) i h q = absurd (omega arith)
-mem-take (x ∷ l) (suc n) zero h q = List·Memᴰ·head refl
-mem-take (x ∷ l) (suc n) (suc i) h q = List·Memᴰ·tail (mem-take l n i (omega arith) (omega arith))
 
 module _ (l : Log) (li : Lined l) where
   pub entries-word : (t : ℕ) → List·Memᴰ t (entries l) → has (logWord l) t ≡ true

@@ -15,7 +15,7 @@ use Rattle.rules.specs.declared.MaybeWord.{MaybeWord}
 use Rattle.rules.specs.declared.MaybeSet.{MaybeSet}
 use Rattle.rules.specs.Flags.{there}
 use Rattle.wire.specs.declared.Message.{Message}
-use Rattle.wire.specs.Codes.{Accept, AcceptOK, Commit, Done, commits}
+use Rattle.wire.specs.Codes.{Accept, AcceptOK, Commit, Done, commits, asks}
 use Rattle.wire.specs.Messages.{prepareOK}
 use Rattle.server.specs.declared.Record.{Record}
 use Rattle.server.specs.declared.Changed.{Changed}
@@ -23,7 +23,7 @@ use Rattle.server.specs.Held.{committedAt}
 use Rattle.server.proofs.Did.{Did, tells, isDone, preAcceptsFirst, preAcceptsAgain, accepts, prepares, commitsFirst, Open, Plain}
 use Rattle.safety.specs.Cluster.{World, Cluster, Reaches}
 use Rattle.safety.proofs.Slice.{Slice, Holds, Votes}
-use Rattle.safety.proofs.Summary.{Voting, Step}
+use Rattle.safety.proofs.Summary.{Voting, Preparing, Step}
 use Rattle.safety.proofs.View.{Said, SaysAcceptOK, recordOf, CommitOf, sliceOf, touchedOf, of-another, NewSound, RecordMoves, step-of}
 use Rattle.safety.proofs.Serving.{after, was-sent, Place, here, elsewhere, place, record-here}
 
@@ -56,7 +56,8 @@ plain-commit r p k = go (or-yes (eqb (r .code) Commit) (eqb (r .code) Done) k)
     go (inl e) = let z = eqb-true (r .code) Commit e in omega (arith, p .above)
     go (inr e) = p .notDone (eqb-true (r .code) Done e)
 
-module _ (touched : ℕ) (c c′ : Cluster) (i w : ℕ) (wl : w < 2 ^ 64) (m : Message) (rs : Reaches c m) where
+-- i answers by its id; that is i itself, no learner, where the message asks
+module _ (touched : ℕ) (c c′ : Cluster) (i id w : ℕ) (wl : w < 2 ^ 64) (m : Message) (rs : Reaches c m) (own : asks (m .code) ≡ true → id ≡ i) where
   abbrev A : Slice
   A = sliceOf c (m .t)
 
@@ -85,7 +86,7 @@ module _ (touched : ℕ) (c c′ : Cluster) (i w : ℕ) (wl : w < 2 ^ 64) (m : M
 
   -- ---- what became of the record
 
-  moves-here : {o : Changed} → Did i w R m o → R′ ≡ o .after → RecordMoves A A′ i
+  moves-here : {o : Changed} → Did id w R m o → R′ ≡ o .after → RecordMoves A A′ i
   moves-here (tells r p) e = moves-still c c′ (m .t) i e
   moves-here (isDone h) e = moves-still c c′ (m .t) i e
   moves-here (preAcceptsFirst k op n) e = record {
@@ -122,7 +123,7 @@ module _ (touched : ℕ) (c c′ : Cluster) (i w : ℕ) (wl : w < 2 ^ 64) (m : M
   still-open : {A : Type 0} → R′ .committed ≡ R .committed → Open R m → committedAt (c′ .servers i) (m .t) ≡ true → A
   still-open e op k = absurd (true≢false (sym k ∙ ap (λ (r : MaybeSet). there (r .some)) e ∙ op .uncommitted))
 
-  committed-here : (v : Set) {o : Changed} → Did i w R m o → R′ ≡ o .after → committedAt (c′ .servers i) (m .t) ≡ true → R′ .committed .set ≡ v → CommitOf c (m .t) v
+  committed-here : (v : Set) {o : Changed} → Did id w R m o → R′ ≡ o .after → committedAt (c′ .servers i) (m .t) ≡ true → R′ .committed .set ≡ v → CommitOf c (m .t) v
   committed-here v (tells r p) e k z = held-still c c′ (m .t) i v e k z
   committed-here v (isDone h) e k z = held-still c c′ (m .t) i v e k z
   committed-here v (preAcceptsFirst q op n) e k z = still-open (ap (λ (r : Record). r .committed) e) op k
@@ -134,7 +135,7 @@ module _ (touched : ℕ) (c c′ : Cluster) (i w : ℕ) (wl : w < 2 ^ 64) (m : M
 
   -- ---- what the answer rests on
 
-  reply-sound : {o : Changed} → Did i w R m o → R′ ≡ o .after → c′ .sent ≡ o .reply ∷ c .sent → NewSound touched A A′ (m .t) (o .reply)
+  reply-sound : {o : Changed} → Did id w R m o → R′ ≡ o .after → c′ .sent ≡ o .reply ∷ c .sent → NewSound touched A A′ (m .t) (o .reply)
   reply-sound (tells r p) e z = record {
     accept = λ k n. absurd (omega (arith, p .above));
     acceptOK = λ k n. absurd (omega (arith, p .above));
@@ -152,20 +153,20 @@ module _ (touched : ℕ) (c c′ : Cluster) (i w : ℕ) (wl : w < 2 ^ 64) (m : M
   reply-sound (preAcceptsFirst k op n) e z = record {
     accept = λ k n. absurd (omega arith);
     acceptOK = λ k n. absurd (omega arith);
-    preAcceptOK = λ k n. subst (λ (v : Record). Holds (v .arrival) w) (sym e) (record { some = refl; is = refl });
+    preAcceptOK = λ y q. subst (λ s. Holds (A′ .arrival s) w) (sym (own (ap asks k))) (subst (λ (v : Record). Holds (v .arrival) w) (sym e) (record { some = refl; is = refl }));
     prepareOK = λ k n. absurd (omega arith);
     commit = λ k n. absurd (false≢true k);
   }
   reply-sound (preAcceptsAgain k op n) e z = record {
     accept = λ k n. absurd (omega arith);
     acceptOK = λ k n. absurd (omega arith);
-    preAcceptOK = λ k q. subst (λ (v : Record). Holds (v .arrival) (R .arrival .word)) (sym e) (record { some = n; is = refl });
+    preAcceptOK = λ y q. subst (λ s. Holds (A′ .arrival s) (R .arrival .word)) (sym (own (ap asks k))) (subst (λ (v : Record). Holds (v .arrival) (R .arrival .word)) (sym e) (record { some = n; is = refl }));
     prepareOK = λ k n. absurd (omega arith);
     commit = λ k n. absurd (false≢true k);
   }
   reply-sound (accepts k op) e z = record {
     accept = λ k n. absurd (omega arith);
-    acceptOK = λ y n. (m .set, voting k op (ap (λ (v : Record). v .promise) e) (subst (λ (v : Record). Votes (v .accepted) (m .ballot) (m .set)) (sym e) (record { some = refl; at = refl; is = refl })));
+    acceptOK = λ y n. subst (λ s. (v : Set) × Voting A A′ s (m .ballot) v) (sym (own (ap asks k))) (m .set, voting k op (ap (λ (v : Record). v .promise) e) (subst (λ (v : Record). Votes (v .accepted) (m .ballot) (m .set)) (sym e) (record { some = refl; at = refl; is = refl })));
     preAcceptOK = λ k n. absurd (omega arith);
     prepareOK = λ k n. absurd (omega arith);
     commit = λ k n. absurd (false≢true k);
@@ -174,11 +175,11 @@ module _ (touched : ℕ) (c c′ : Cluster) (i w : ℕ) (wl : w < 2 ^ 64) (m : M
     accept = λ k n. absurd (omega arith);
     acceptOK = λ k n. absurd (omega arith);
     preAcceptOK = λ k n. absurd (omega arith);
-    prepareOK = λ y n. record { low = op .low; promises = ap (λ (v : Record). v .promise) e; arrived = refl; held = refl; quiet = λ b h. quiet b h (List·Memᴰ·cases-cons (subst (List·Memᴰ (h .message)) z (h .within))) };
+    prepareOK = λ y n. subst (λ s. Preparing A A′ s (m .ballot) (R .arrival) (R .accepted)) (sym (own (ap asks k))) (record { low = op .low; promises = ap (λ (v : Record). v .promise) e; arrived = refl; held = refl; quiet = λ b h. quiet b h (List·Memᴰ·cases-cons (subst (List·Memᴰ (h .message)) z (h .within))) });
     commit = λ k n. absurd (false≢true k);
   }
     where
-      quiet : (b : ℕ) (h : Said (c′ .sent) (m .t) AcceptOK (SaysAcceptOK i b)) → (h .message ≡ prepareOK (m .t) i (m .ballot) (R .arrival) (R .accepted)) ⊎ List·Memᴰ (h .message) (c .sent) → Said (c .sent) (m .t) AcceptOK (SaysAcceptOK i b)
+      quiet : (b : ℕ) (h : Said (c′ .sent) (m .t) AcceptOK (SaysAcceptOK i b)) → (h .message ≡ prepareOK (m .t) id (m .ballot) (R .arrival) (R .accepted)) ⊎ List·Memᴰ (h .message) (c .sent) → Said (c .sent) (m .t) AcceptOK (SaysAcceptOK i b)
       quiet b h (inl q) = absurd (omega (arith, h .coded, ap (λ (m : Message). m .code) q))
       quiet b h (inr q) = record { message = h .message; within = q; coded = h .coded; numbered = h .numbered; says = h .says }
   reply-sound (commitsFirst k n) e z = record {
@@ -205,7 +206,7 @@ reply-other touched i w v m (accepts k op) a a′ u n = of-another touched a a�
 reply-other touched i w v m (prepares k op) a a′ u n = of-another touched a a′ u _ (λ e. n (sym e))
 reply-other touched i w v m (commitsFirst k h) a a′ u n = of-another touched a a′ u _ (λ e. n (sym e))
 
-module _ (w : World) (c : Cluster) (i a : ℕ) (al : a < 2 ^ 64) (m : Message) (o : Changed) (rs : Reaches c m) (l : m .t < length (c .servers i .records)) (did : Did i a (recordOf c i (m .t)) m o) where
+module _ (w : World) (c : Cluster) (i id a : ℕ) (al : a < 2 ^ 64) (m : Message) (o : Changed) (rs : Reaches c m) (own : asks (m .code) ≡ true → id ≡ i) (l : m .t < length (c .servers i .records)) (did : Did id a (recordOf c i (m .t)) m o) where
   abbrev C′ : Cluster
   C′ = after c i (m .t) o
 
@@ -213,7 +214,7 @@ module _ (w : World) (c : Cluster) (i a : ℕ) (al : a < 2 ^ 64) (m : Message) (
   step-here = step-of (touchedOf w (m .t)) c C′ (m .t)
       (λ s. moves s (place c i (m .t) o l s (m .t)))
       (λ r k. List·Memᴰ·tail k)
-      (new-or-old _ (o .reply) (c .sent) (reply-sound (touchedOf w (m .t)) c C′ i a al m rs did is refl))
+      (new-or-old _ (o .reply) (c .sent) (reply-sound (touchedOf w (m .t)) c C′ i id a al m rs own did is refl))
       (λ s v k e. inl (held s v k e (place c i (m .t) o l s (m .t))))
     where
       is : recordOf C′ i (m .t) ≡ o .after
@@ -224,18 +225,18 @@ module _ (w : World) (c : Cluster) (i a : ℕ) (al : a < 2 ^ 64) (m : Message) (
           at (elsewhere k) = record-here c i (m .t) o l
 
       moves : (s : ℕ) → Place c i (m .t) o s (m .t) → RecordMoves (sliceOf c (m .t)) (sliceOf C′ (m .t)) s
-      moves s (here e e′ k) = subst (RecordMoves (sliceOf c (m .t)) (sliceOf C′ (m .t))) (sym e) (moves-here (touchedOf w (m .t)) c C′ i a al m rs did is)
+      moves s (here e e′ k) = subst (RecordMoves (sliceOf c (m .t)) (sliceOf C′ (m .t))) (sym e) (moves-here (touchedOf w (m .t)) c C′ i id a al m rs own did is)
       moves s (elsewhere k) = moves-still c C′ (m .t) s k
 
       held : (s : ℕ) (v : Set) → committedAt (C′ .servers s) (m .t) ≡ true → recordOf C′ s (m .t) .committed .set ≡ v → Place c i (m .t) o s (m .t) → CommitOf c (m .t) v
       held s v k e (elsewhere q) = held-still c C′ (m .t) s v q k e
-      held s v k e (here z z′ q) = committed-here (touchedOf w (m .t)) c C′ i a al m rs v did is (subst (λ s. committedAt (C′ .servers s) (m .t) ≡ true) z k) (subst (λ s. recordOf C′ s (m .t) .committed .set ≡ v) z e)
+      held s v k e (here z z′ q) = committed-here (touchedOf w (m .t)) c C′ i id a al m rs own v did is (subst (λ s. committedAt (C′ .servers s) (m .t) ≡ true) z k) (subst (λ s. recordOf C′ s (m .t) .committed .set ≡ v) z e)
 
   step-other : (u : ℕ) → u ≢ m .t → Step (touchedOf w u) (sliceOf c u) (sliceOf C′ u)
   step-other u n = step-of (touchedOf w u) c C′ u
       (λ s. moves-still c C′ u s (still s (place c i (m .t) o l s u)))
       (λ r k. List·Memᴰ·tail k)
-      (new-or-old _ (o .reply) (c .sent) (reply-other (touchedOf w u) i a (recordOf c i (m .t)) m did (sliceOf c u) (sliceOf C′ u) u n))
+      (new-or-old _ (o .reply) (c .sent) (reply-other (touchedOf w u) id a (recordOf c i (m .t)) m did (sliceOf c u) (sliceOf C′ u) u n))
       (λ s v k e. inl (held-still c C′ u s v (still s (place c i (m .t) o l s u)) k e))
     where
       still : (s : ℕ) → Place c i (m .t) o s u → recordOf C′ s u ≡ recordOf c s u

@@ -24,7 +24,7 @@ use Rattle.server.specs.Serve.{cameEarlier, arrivalSet, fixes, arrivalFor, serv
 use Rattle.server.proofs.Passed.{Passed, number-below}
 use Rattle.server.proofs.Did.{Did, tells, isDone, preAcceptsFirst, preAcceptsAgain, accepts, prepares, commitsFirst}
 use Rattle.server.proofs.RunLeaves.{SameHeld, Leaves, leaves-refl}
-use Rattle.safety.specs.Cluster.{World, Cluster, put, answered, ran, Reaches}
+use Rattle.safety.specs.Cluster.{World, Cluster, put, idOf, answered, ran, Reaches, MayTake}
 use Rattle.safety.proofs.Slice.{Holds}
 use Rattle.safety.proofs.Summary.{Step}
 use Rattle.safety.proofs.View.{Said, SaysAccept, recordOf, CommitOf, sliceOf, touchedOf, step-of, put-all}
@@ -67,7 +67,7 @@ module _ (w : World) (c c′ : Cluster) (i : ℕ) (z : Server) (lv : Leaves (c .
 
   leaves-sizes : Sizes c → Sizes c′
   leaves-sizes sz = record {
-    ids = λ s. subst (λ (f : ℕ → Server). f s .id ≡ s) (sym es) (put-all (λ s (x : Server). x .id ≡ s) (c .servers) i z (lv .id ∙ sz .ids i) (sz .ids) s);
+    ids = λ s. subst (λ (f : ℕ → Server). f s .id ≡ idOf s) (sym es) (put-all (λ s (x : Server). x .id ≡ idOf s) (c .servers) i z (lv .id ∙ sz .ids i) (sz .ids) s);
     records = λ s. subst (λ (f : ℕ → Server). length (f s .records) ≡ 64) (sym es) (put-all (λ s (x : Server). length (x .records) ≡ 64) (c .servers) i z (lv .size ∙ sz .records i) (sz .records) s);
   }
 
@@ -98,14 +98,18 @@ reply-code (accepts k op) e = omega arith
 reply-code (prepares k op) e = omega arith
 reply-code (commitsFirst k n) e = omega arith
 
-module _ (w : World) (c : Cluster) (i : ℕ) (m : Message) (rs : Reaches c m) (k : Kept w c) where
+-- a server's id is its own number
+own-id : (i id : ℕ) → id ≡ idOf i → i < 12 → id ≡ i
+own-id i id e l = omega arith
+
+module _ (w : World) (c : Cluster) (i : ℕ) (m : Message) (may : MayTake i m) (rs : Reaches c m) (k : Kept w c) where
   takes-kept : (o : Changed) → Passed (c .servers i) m → Did (c .servers i .id) (arrivalFor (c .servers i) m) (recordOf c i (m .t)) m o → Kept w (after c i (m .t) o)
   takes-kept o p did = quiet-kept w c (after c i (m .t) o) refl refl
-      (server-step w c i (arrivalFor (c .servers i) m) (arrival-fits (c .servers i) m) m o rs small (subst (λ n. Did n (arrivalFor (c .servers i) m) (recordOf c i (m .t)) m o) (k .sizes .ids i) did))
+      (server-step w c i (c .servers i .id) (arrivalFor (c .servers i) m) (arrival-fits (c .servers i) m) m o rs (λ a. own-id i (c .servers i .id) (k .sizes .ids i) (may a)) small did)
       (λ t. record { preAcceptOK = λ h. record { message = h .message; within = List·Memᴰ·tail (h .within); coded = h .coded; numbered = h .numbered; says = h .says } })
       (λ t b v a. before t b v a (List·Memᴰ·cases-cons (a .within)))
       (record {
-        ids = put-all (λ s (x : Server). x .id ≡ s) (c .servers) i _ (k .sizes .ids i) (k .sizes .ids);
+        ids = put-all (λ s (x : Server). x .id ≡ idOf s) (c .servers) i _ (k .sizes .ids i) (k .sizes .ids);
         records = put-all (λ s (x : Server). length (x .records) ≡ 64) (c .servers) i _ (length-set (c .servers i .records) (m .t) (o .after) ∙ k .sizes .records i) (k .sizes .records);
       })
       k

@@ -1,9 +1,12 @@
 -- The cluster of demand 3: its servers, stations that hold at most one live drive each, the ballots taken, and all that was sent.
+-- A server from SERVERS on is a learner. A station that lost its disk begins anew as a fresh server of its shard and from then on only listens: it takes Commit, Done, Inquire and Fetch, and runs, but takes no PreAccept, Accept or Prepare, since it does not know what it promised.
+-- Learner i is such a further life of server i mod SERVERS, and there may be any number of them. The base has none: what holds of servers and learners holds then too.
 -- Each step is a definition of the server or the drive. A refused step changes nothing and sends nothing, as if its message were lost. Messages may be lost, repeated, reordered and misled.
 -- What demand 3 takes for granted stands here: each message that arrives was sent (`Reaches`, and the guard of `hears`); each number names one transaction (`World`, in `starts` and `recovers`);
 -- each ballot of a number is taken once (`Unused`); no server or live drive forgets (there is no step that does; a drive may vanish whole).
-use Prim.Native.Nat.{ℕ, _<_}
+use Prim.Native.Nat.{ℕ, _%_, _<_}
 use mathlib.Core.Path.{_≡_}
+use mathlib.Core.Bool.{true}
 use mathlib.Core.Option.{Option, none, some}
 use mathlib.Core.List.{List, [], _∷_, List·Memᴰ}
 use lib.Dec.{eqb}
@@ -12,6 +15,7 @@ use Rattle.rules.specs.declared.Pieces.{Pieces}
 use Rattle.rules.specs.Choice.{_if_else_}
 use Rattle.rules.specs.Cluster.{SERVERS, KEYS, shardOf}
 use Rattle.wire.specs.declared.Message.{Message}
+use Rattle.wire.specs.Codes.{asks}
 use Rattle.wire.specs.Messages.{inquire, fetch}
 use Rattle.counters.specs.declared.Counters.{Counters}
 use Rattle.server.specs.declared.Server.{Server}
@@ -44,7 +48,7 @@ pub record Taken : Type 0 where
   pub ballot : ℕ
 
 pub record Cluster : Type 0 where
-  -- those below SERVERS; the others never do anything
+  -- those below SERVERS, and the learners
   pub servers : ℕ → Server
   pub stations : ℕ → Option Drive
   pub taken : List Taken
@@ -57,9 +61,17 @@ pub record Cluster : Type 0 where
 unfoldable pub put : {A : Type 0} → (ℕ → A) → ℕ → A → ℕ → A
 put f i a j = a if eqb j i else f j
 
+-- the id that i has: its own number, or for a learner that of the server whose further life it is
+abbrev pub idOf : ℕ → ℕ
+idOf i = i % SERVERS
+
+-- its shard
+abbrev pub homeOf : ℕ → ℕ
+homeOf i = shardOf (idOf i)
+
 unfoldable pub firstServer : World → ℕ → Server
 firstServer w i =
-    record { id = freshServer i .id; records = freshServer i .records; counters = w .counters (shardOf i); log = freshServer i .log }
+    record { id = freshServer (idOf i) .id; records = freshServer (idOf i) .records; counters = w .counters (homeOf i); log = freshServer (idOf i) .log }
 
 unfoldable pub atFirst : World → Cluster
 atFirst w = record { servers = firstServer w; stations = λ j. none; taken = []; sent = []; order = [] }
@@ -109,6 +121,10 @@ pub data Reaches (c : Cluster) (m : Message) : Type 0 where
   inquires : (t : ℕ) → m ≡ inquire t → Reaches c m
   fetches : (t : ℕ) → m ≡ fetch t → Reaches c m
 
+-- a learner takes no PreAccept, Accept or Prepare
+abbrev pub MayTake : ℕ → Message → Type 0
+MayTake i m = asks (m .code) ≡ true → i < SERVERS
+
 -- each ballot is taken once for a number
 abbrev pub Unused : Cluster → Moved → Type 0
 Unused c r = r .refusal ≡ 0 → List·Memᴰ (ballotOf (r .drive)) (c .taken) → ⊥
@@ -116,10 +132,10 @@ Unused c r = r .refusal ≡ 0 → List·Memᴰ (ballotOf (r .drive)) (c .taken) 
 -- ---- the steps
 
 pub data Next (w : World) (c : Cluster) : Cluster → Type 0 where
-  -- a server takes a message, runs, or runs until nothing is left
-  takes : (i : ℕ) (m : Message) → i < SERVERS → Reaches c m → Next w c (answered c i (serve (c .servers i) m))
-  runs : (i : ℕ) → i < SERVERS → Next w c (ran c i (run (c .servers i)))
-  runsOut : (i : ℕ) → i < SERVERS → Next w c (ran c i (runAll (c .servers i)))
+  -- a server or a learner takes a message, runs, or runs until nothing is left
+  takes : (i : ℕ) (m : Message) → MayTake i m → Reaches c m → Next w c (answered c i (serve (c .servers i) m))
+  runs : (i : ℕ) → Next w c (ran c i (run (c .servers i)))
+  runsOut : (i : ℕ) → Next w c (ran c i (runAll (c .servers i)))
   -- a station sends the message due
   sends : (j : ℕ) (d : Drive) → c .stations j ≡ some d → Next w c (asked c (due d))
   -- a live drive hears what was sent, or is told to move on

@@ -1,3 +1,4 @@
 pub mod Orders
 pub mod Cluster
 pub mod Statements
+pub mod Plain

@@ -1,13 +1,14 @@
--- What holds of every cluster that is reached: demand 3.
+-- What holds of every cluster that is reached: demand 3. It is said of every server, and of every learner as of a server of its shard.
 use Prim.Native.Nat.{ℕ, _<_}
 use mathlib.Core.Path.{_≡_}
 use mathlib.Core.Logic.{_⊎_, _≢_}
 use mathlib.Core.Bool.{true}
 use mathlib.Core.Option.{some}
 use mathlib.Core.List.{List, _++_, List·Memᴰ}
+use lib.ListN.{length}
 use Rattle.masks.specs.Bits.{In}
 use Rattle.rules.specs.declared.Set.{Set}
-use Rattle.rules.specs.Cluster.{SERVERS, NUMBERS, shardOf}
+use Rattle.rules.specs.Cluster.{NUMBERS}
 use Rattle.rules.specs.Pieces.{touches}
 use Rattle.rules.specs.Conflict.{conflict}
 use Rattle.rules.specs.Sets.{word}
@@ -22,11 +23,10 @@ use Rattle.drive.specs.Hear.{hear}
 use Rattle.drive.specs.Host.{again, moveOn}
 use Rattle.drive.specs.Due.{due}
 use Rattle.safety.specs.Orders.{entries, Earlier, completed}
-use Rattle.safety.specs.Cluster.{World, Cluster, Reaches, Next, Reached}
+use Rattle.safety.specs.Cluster.{World, Cluster, homeOf, Reaches, Next, Reached}
 
 -- the server s holds t as committed, with the set v
 pub record Committed (c : Cluster) (s t : ℕ) (v : Set) : Type 0 where
-  pub server : s < SERVERS
   pub holds : committedAt (c .servers s) t ≡ true
   pub is : recordAt (c .servers s) t .committed .set ≡ v
 
@@ -47,8 +47,9 @@ Coverage w c =
 -- 3: one order of all numbers, in which every server ran its pairs in conflict: first the numbers that ran anywhere, as they first did, then the others, rising
 pub record OneOrder (w : World) (c : Cluster) : Type 0 where
   pub all : (t : ℕ) → t < NUMBERS → List·Memᴰ t (completed (c .order) NUMBERS)
+  pub only : (t : ℕ) → List·Memᴰ t (completed (c .order) NUMBERS) → t < NUMBERS
   pub once : (t : ℕ) → Earlier t t (completed (c .order) NUMBERS) → ⊥
-  pub runs : (s t u k : ℕ) → s < SERVERS → Earlier t u (logOf c s) → conflict k (w .pieces t) (w .pieces u) ≡ true → Earlier t u (completed (c .order) NUMBERS)
+  pub runs : (s t u k : ℕ) → Earlier t u (logOf c s) → conflict k (w .pieces t) (w .pieces u) ≡ true → Earlier t u (completed (c .order) NUMBERS)
 
 -- and what ran stays where it is: the order of first runs grows at its end alone
 abbrev pub OrderGrows : World → Type 0
@@ -65,19 +66,20 @@ pub record SameShown (w : World) (c : Cluster) (k s s′ : ℕ) : Type 0 where
   pub results : (t : ℕ) → List·Memᴰ t (logOf c s) → List·Memᴰ t (logOf c s′) → recordAt (c .servers s) t .values ≡ recordAt (c .servers s′) t .values
 
 abbrev pub EqualCounters : World → Cluster → Type 0
-EqualCounters w c =
-    (k s s′ : ℕ) → s < SERVERS → s′ < SERVERS → shardOf s ≡ k → shardOf s′ ≡ k → SameRan w c k s s′ → SameShown w c k s s′
+EqualCounters w c = (k s s′ : ℕ) → homeOf s ≡ k → homeOf s′ ≡ k → SameRan w c k s s′ → SameShown w c k s s′
 
--- 5: every server and every live drive is in form
+-- 5: every server and every live drive is in form; a server has a record for each number, and its log has as many places, as the types of these arrays say
 pub record InForm (c : Cluster) : Type 0 where
-  pub servers : (s : ℕ) → s < SERVERS → S.formed (c .servers s) ≡ true
+  pub servers : (s : ℕ) → S.formed (c .servers s) ≡ true
+  pub records : (s : ℕ) → length (c .servers s .records) ≡ NUMBERS
+  pub places : (s : ℕ) → length (c .servers s .log .list) ≡ NUMBERS
   pub drives : (j : ℕ) (d : Drive) → c .stations j ≡ some d → D.formed d ≡ true
 
 -- so that 13 is never given
 pub record Never13 (c : Cluster) : Type 0 where
-  pub takes : (s : ℕ) (m : Message) → s < SERVERS → serve (c .servers s) m .refusal ≢ 13
-  pub runs : (s : ℕ) → s < SERVERS → run (c .servers s) .refusal ≢ 13
-  pub runsOut : (s : ℕ) → s < SERVERS → runAll (c .servers s) .refusal ≢ 13
+  pub takes : (s : ℕ) (m : Message) → serve (c .servers s) m .refusal ≢ 13
+  pub runs : (s : ℕ) → run (c .servers s) .refusal ≢ 13
+  pub runsOut : (s : ℕ) → runAll (c .servers s) .refusal ≢ 13
   pub sends : (j : ℕ) (d : Drive) → c .stations j ≡ some d → due d .refusal ≢ 13
   pub hears : (j : ℕ) (d : Drive) (m : Message) → c .stations j ≡ some d → hear d m .refusal ≢ 13
   pub movesOn : (j : ℕ) (d : Drive) → c .stations j ≡ some d → moveOn d .refusal ≢ 13
@@ -85,8 +87,8 @@ pub record Never13 (c : Cluster) : Type 0 where
 
 -- nor 5 or 6 to a message that reaches a server: its pieces are those held, its set the committed one
 pub record NeverOther (c : Cluster) : Type 0 where
-  pub pieces : (s : ℕ) (m : Message) → s < SERVERS → Reaches c m → serve (c .servers s) m .refusal ≢ 5
-  pub sets : (s : ℕ) (m : Message) → s < SERVERS → Reaches c m → serve (c .servers s) m .refusal ≢ 6
+  pub pieces : (s : ℕ) (m : Message) → Reaches c m → serve (c .servers s) m .refusal ≢ 5
+  pub sets : (s : ℕ) (m : Message) → Reaches c m → serve (c .servers s) m .refusal ≢ 6
 
 -- ---- demand 3
 
