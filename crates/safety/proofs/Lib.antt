@@ -40,6 +40,7 @@ pub mod Replays
 pub mod EqualCounters
 pub mod Scripts
 pub mod Witness
+pub mod SecondWitness
 pub mod Never13
 pub mod Theorem
 pub mod Plain

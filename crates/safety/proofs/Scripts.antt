@@ -1,25 +1,22 @@
 -- A history written as a list of events: where each event's guard holds, the cluster that it leads to is reached. Assumes nothing.
 use mathlib.Core.Path.{_≡_, refl, sym, ap, subst}
 use mathlib.Core.Bool.{Bool, true, false, cond, not, _&&_, _||_, true≢false}
-use mathlib.Core.Option.{Option, none, some, Option·getD, Option·some-injective, Option·none-ne-some}
-use mathlib.Core.List.{List, [], _∷_, List·Memᴰ, List·Memᴰ·head, List·Memᴰ·tail}
+use mathlib.Core.Option.{Option, none, some, Option·some-injective, Option·none-ne-some}
+use mathlib.Core.List.{List, [], _∷_, map, List·Memᴰ, List·Memᴰ·head, List·Memᴰ·tail}
 use Prim.Native.Nat.{ℕ, zero, suc, _-_, _<_}
 use native.Mathlib.Omega.{arith}
 use borrow.Author.Tests.{ltb-true, eq-eqb}
 use lib.Dec.{ltb, eqb}
-use lib.ListN.{length, getD}
-use Rattle.masks.specs.Folds.{allBelow}
+use lib.IntN.{ℤ}
+use lib.ListN.{length, getD, take}
 use Rattle.masks.proofs.Bools.{and-yes, and-yes-l, and-yes-r, or-yes-l, or-yes-r, then-yes, true-and-false, not-yes}
 use Rattle.rules.specs.declared.Value.{Value}
-use Rattle.rules.specs.declared.Values.{Values}
-use Rattle.rules.specs.Cluster.{KEYS}
 use Rattle.rules.specs.Flags.{implies}
-use Rattle.rules.specs.Pieces.{noPieces, sameInt}
-use Rattle.rules.specs.Values.{noValue}
+use Rattle.rules.specs.Pieces.{noPieces}
 use Rattle.wire.specs.declared.Message.{Message}
 use Rattle.wire.specs.Codes.{asks}
 use Rattle.wire.specs.Messages.{blank, inquire, fetch}
-use Rattle.counters.specs.Effects.{counterAt}
+use Rattle.counters.specs.declared.Counter.{Counter}
 use Rattle.server.specs.Held.{recordAt}
 use Rattle.server.specs.Serve.{serve}
 use Rattle.server.specs.Run.{run, runAll}
@@ -31,6 +28,7 @@ use Rattle.drive.specs.Due.{due}
 use Rattle.drive.specs.Held.{began as beginning}
 use Rattle.cases.specs.Computes.{computes}
 use Rattle.safety.specs.Orders.{entries, listed, noting, firsts}
+use Rattle.safety.specs.Statements.{logOf}
 use Rattle.safety.specs.Cluster.{World, Cluster, Taken, put, firstServer, atFirst, ballotOf, answered, ran, asked, moved, began, vanished, Reaches, MayTake, Unused, Next, Reached, fresh, then}
 
 -- a station by its number, a server or learner by its number, a message by how many were sent before it
@@ -100,33 +98,30 @@ unfoldable pub play : World → List Event → Cluster → Option Cluster
 play w [] c = some c
 play w (e ∷ es) c = onward (after w c e) (play w es)
 
-unfoldable pub isSome : Option Cluster → Bool
-isSome none = false
-isSome (some c) = true
+-- ---- what is shown at the end
 
--- where a script leads, if no guard fails
-unfoldable pub endOf : World → List Event → Cluster
-endOf w es = Option·getD (play w es (atFirst w)) (atFirst w)
+-- a server shows its log, its counters and its results of a number
+pub record Shown : Type 0 where
+  pub log : List ℕ
+  pub counters : List ℤ
+  pub results : List Value
 
--- ---- what is shown at its end
+-- the server s, and its results of t
+unfoldable pub shownAt : Cluster → (s t : ℕ) → Shown
+shownAt c s t = record {
+  log = logOf c s;
+  counters = map (λ (x : Counter). x .value) (c .servers s .counters .list);
+  results = take (recordAt (c .servers s) t .values .count) (recordAt (c .servers s) t .values .list);
+}
 
--- two servers show the same counters
-unfoldable pub sameCounters : Cluster → ℕ → ℕ → Bool
-sameCounters c s u = allBelow (λ x. sameInt (counterAt (c .servers s .counters) x .value) (counterAt (c .servers u .counters) x .value)) KEYS
-
-abbrev valueAt : Values → ℕ → Value
-valueAt r n = getD (r .list) n noValue
-
-unfoldable pub sameValues : Values → Values → Bool
-sameValues a b = eqb (a .count) (b .count) && allBelow (λ n. sameInt (valueAt a n .value) (valueAt b n .value) && eqb (valueAt a n .kept) (valueAt b n .kept)) (a .count)
-
--- and the same results of t
-unfoldable pub sameResults : Cluster → (t s u : ℕ) → Bool
-sameResults c t s u = sameValues (recordAt (c .servers s) t .values) (recordAt (c .servers u) t .values)
+-- what f shows of the cluster, if no guard failed
+unfoldable pub onEnd : {A : Type 0} → (Cluster → A) → Option Cluster → Option A
+onEnd f none = none
+onEnd f (some c) = some (f c)
 
 -- every definition that a script computes with
 unfoldable pub scripts : Unit {0}
-unfolding computes entries listed noting firsts put firstServer atFirst answered ran asked moved began vanished sentAs wasSent mayTake isTaken onlyIf withDrive begins after onward play isSome endOf sameCounters sameValues sameResults
+unfolding computes entries listed noting firsts put firstServer atFirst answered ran asked moved began vanished sentAs wasSent mayTake isTaken onlyIf withDrive begins after onward play shownAt onEnd
 scripts = tt
 
 -- ---- it is reached
@@ -204,12 +199,11 @@ played w (e ∷ es) c r c′ h = go (after w c e) refl h (played w es)
     go none k q ih = absurd (Option·none-ne-some c′ q)
     go (some z) k q ih = ih z (then r (next-of w c e z k)) c′ q
 
-some-of : (o : Option Cluster) (d : Cluster) → isSome o ≡ true → o ≡ some (Option·getD o d)
-unfolding isSome
-some-of none d e = absurd (true≢false (sym e))
-some-of (some c) d e = refl
-
--- where no guard of a script fails, its end is reached
-pub played-out : (w : World) (es : List Event) → isSome (play w es (atFirst w)) ≡ true → Reached w (endOf w es)
-unfolding endOf
-played-out w es e = played w es (atFirst w) fresh (endOf w es) (some-of (play w es (atFirst w)) (atFirst w) e)
+-- the end of a script is reached
+pub ends-with : {A : Type 0} (w : World) (es : List Event) (f : Cluster → A) (a : A) → onEnd f (play w es (atFirst w)) ≡ some a → (c : Cluster) × Reached w c × (f c ≡ a)
+unfolding onEnd
+ends-with {A} w es f a e = go (play w es (atFirst w)) refl e
+  where
+    go : (o : Option Cluster) → play w es (atFirst w) ≡ o → onEnd f o ≡ some a → (c : Cluster) × Reached w c × (f c ≡ a)
+    go none k q = absurd (Option·none-ne-some a q)
+    go (some c) k q = (c, played w es (atFirst w) fresh c k, Option·some-injective (f c) a q)

@@ -1,17 +1,18 @@
 -- A history that happens, so that nothing holds emptily: an exchange over two shards that loses messages, a recovery by another coordinator, commits, runs at servers of both shards, and a learner that is told of it, runs and shows the same counters.
 -- Assumes nothing.
 use mathlib.Core.Path.{_≡_, refl}
-use mathlib.Core.Bool.{true, false}
+use mathlib.Core.Bool.{Bool, true, false}
+use mathlib.Core.Option.{some}
 use mathlib.Core.List.{List, [], _∷_, _++_}
+use Prim.Native.Nat.{ℕ}
 use lib.IntN.{pos}
-use lib.ListN.{replicate}
+use lib.ListN.{replicate, set}
 use Rattle.rules.specs.declared.Pieces.{Pieces}
 use Rattle.rules.specs.Pieces.{noPiece, put}
-use Rattle.counters.specs.Effects.{noCounters, counterAt}
+use Rattle.counters.specs.Effects.{noCounters}
 use Rattle.server.specs.Held.{arrivedAt, committedAt}
-use Rattle.safety.specs.Cluster.{World, Cluster, atFirst, Reached}
-use Rattle.safety.specs.Statements.{logOf}
-use Rattle.safety.proofs.Scripts.{Event, takes, inquires, runs, runsOut, sends, hears, movesOn, starts, recovers, vanishes, play, isSome, endOf, sameCounters, sameResults, scripts, played-out}
+use Rattle.safety.specs.Cluster.{World, Cluster, Taken, atFirst, Reached}
+use Rattle.safety.proofs.Scripts.{Event, takes, inquires, runs, runsOut, sends, hears, movesOn, starts, recovers, vanishes, play, Shown, shownAt, onEnd, scripts, ends-with}
 
 -- put 5 on key 3 of shard 0 and on key 0 of shard 1
 both : Pieces
@@ -41,37 +42,50 @@ rebuilding = inquires 0 8 ∷ takes 14 19 ∷ runs 14 ∷ []
 script : List Event
 script = exchange ++ (recovery ++ (commitment ++ rebuilding))
 
--- every definition that it computes with
-plays : Unit {0}
-unfolding scripts both world exchange recovery commitment rebuilding script
-plays = tt
+-- ---- what it ends with
 
-end : Cluster
-end = endOf world script
+pub record End : Type 0 where
+  pub at0 : Shown
+  pub at3 : Shown
+  pub at14 : Shown
+  pub committed5 : Bool
+  pub arrived5 : Bool
+  pub arrived14 : Bool
+  pub order : List ℕ
+  pub taken : List Taken
 
-happens : isSome (play world script (atFirst world)) ≡ true
-unfolding plays
+unfoldable pub endOf : Cluster → End
+endOf c = record {
+  at0 = shownAt c 0 8;
+  at3 = shownAt c 3 8;
+  at14 = shownAt c 14 8;
+  committed5 = committedAt (c .servers 5) 8;
+  arrived5 = arrivedAt (c .servers 5) 8;
+  arrived14 = arrivedAt (c .servers 14) 8;
+  order = c .order;
+  taken = c .taken;
+}
+
+-- 8 ran, and put 5 on the key x
+unfoldable pub with5 : ℕ → Shown
+with5 x = record { log = 8 ∷ []; counters = set (replicate 16 (pos 0)) x (pos 5); results = record { value = pos 5; kept = 0 } ∷ [] }
+
+-- 8 ran at servers of both shards, and put 5 into a counter of each; the learner shows what server 0 shows; server 5 holds 8 as committed, and neither it nor the learner ever got its PreAccept; two ballots were taken
+unfoldable pub end : End
+end = record {
+  at0 = with5 3;
+  at3 = with5 0;
+  at14 = with5 3;
+  committed5 = true;
+  arrived5 = false;
+  arrived14 = false;
+  order = 8 ∷ [];
+  taken = record { number = 8; ballot = 11 } ∷ record { number = 8; ballot = 0 } ∷ [];
+}
+
+happens : onEnd endOf (play world script (atFirst world)) ≡ some end
+unfolding scripts both world exchange recovery commitment rebuilding script endOf with5 end
 happens = refl
 
--- what it ends with: 8 ran at servers of both shards, and put 5 into a counter of each; server 5, which never got its PreAccept, holds it as committed; learner 14 ran it and shows what server 0 shows; two ballots were taken
-pub record Ends (c : Cluster) : Type 0 where
-  pub log0 : logOf c 0 ≡ 8 ∷ []
-  pub log3 : logOf c 3 ≡ 8 ∷ []
-  pub key3 : counterAt (c .servers 0 .counters) 3 .value ≡ pos 5
-  pub key0 : counterAt (c .servers 3 .counters) 0 .value ≡ pos 5
-  pub held5 : committedAt (c .servers 5) 8 ≡ true
-  pub absent5 : arrivedAt (c .servers 5) 8 ≡ false
-  pub log14 : logOf c 14 ≡ 8 ∷ []
-  pub counters14 : sameCounters c 14 0 ≡ true
-  pub results14 : sameResults c 8 14 0 ≡ true
-  pub absent14 : arrivedAt (c .servers 14) 8 ≡ false
-  pub order : c .order ≡ 8 ∷ []
-  pub taken : c .taken ≡ record { number = 8; ballot = 11 } ∷ record { number = 8; ballot = 0 } ∷ []
-
-ends : Ends end
-unfolding plays end
-ends = record { log0 = refl; log3 = refl; key3 = refl; key0 = refl; held5 = refl; absent5 = refl; log14 = refl; counters14 = refl; results14 = refl; absent14 = refl; order = refl; taken = refl }
-
-pub witness : (w : World) × (c : Cluster) × Reached w c × Ends c
-unfolding end
-witness = (world, end, played-out world script happens, ends)
+pub witness : (w : World) × (c : Cluster) × Reached w c × (endOf c ≡ end)
+witness = let e = ends-with world script endOf end happens in (world, e .0, e .1, e .2)

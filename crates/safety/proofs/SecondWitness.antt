@@ -1,0 +1,129 @@
+-- A second history that happens: two numbers on one key of shard 2, one of them on shard 3 too, where the first counters differ. A drive moves on in phase 1 and is gone; a recovery at a floor of 20 is gone too; another, at a floor of 9, is behind, tries again, is told Done and commits. All servers run in one order, a sum that is too large is kept, and a Fetch is answered with Results.
+-- Assumes nothing.
+use mathlib.Core.Path.{_≡_, refl}
+use mathlib.Core.Option.{Option, none, some}
+use mathlib.Core.List.{List, [], _∷_, _++_}
+use Prim.Native.Nat.{ℕ, _*_}
+use lib.Dec.{eqb}
+use lib.IntN.{pos}
+use lib.ListN.{replicate, set}
+use Rattle.rules.specs.declared.Pieces.{Pieces}
+use Rattle.rules.specs.declared.Value.{Value}
+use Rattle.rules.specs.Choice.{_if_else_}
+use Rattle.rules.specs.Pieces.{noPiece, put, add}
+use Rattle.rules.specs.Sets.{noSet}
+use Rattle.rules.specs.Maybe.{someWord, someVote}
+use Rattle.rules.specs.Values.{noValue}
+use Rattle.wire.specs.declared.Message.{Message}
+use Rattle.wire.specs.Messages.{prepareOK, results}
+use Rattle.counters.specs.declared.Counters.{Counters}
+use Rattle.drive.specs.declared.Drive.{Drive}
+use Rattle.safety.specs.Cluster.{World, Cluster, Taken, atFirst, Reached}
+use Rattle.safety.proofs.Scripts.{Event, takes, fetches, runs, sends, hears, movesOn, starts, recovers, triesAgain, vanishes, sentAs, play, Shown, shownAt, onEnd, scripts, ends-with}
+
+-- number 9 adds 1 to key 5 of shard 2, and puts 7 on key 0 of shard 3
+nine : Pieces
+nine = record { list = record { shard = 2; key = 5; kind = add; operand = pos 1 } ∷ record { shard = 3; key = 0; kind = put; operand = pos 7 } ∷ replicate 6 noPiece; count = 2 }
+
+-- number 12 adds 2 to key 5 of shard 2, and too much to key 6
+twelve : Pieces
+twelve = record { list = record { shard = 2; key = 5; kind = add; operand = pos 2 } ∷ record { shard = 2; key = 6; kind = add; operand = pos 2147483647 } ∷ replicate 6 noPiece; count = 2 }
+
+-- shard k begins with 10 k at every key
+tens : ℕ → Counters
+tens k = record { list = replicate 16 (record { value = pos (10 * k) }) }
+
+world : World
+unfolding tens
+world = record { pieces = λ t. nine if eqb t 9 else twelve; counters = tens; sixteen = λ k. refl }
+
+-- coordinator 1 starts 9, hears two servers of each shard and moves on in phase 1; two of each accept, and it is gone when server 9 alone has its Commit
+exchange : List Event
+exchange =
+    starts 0 1 9 ∷ sends 0 ∷ takes 6 0 ∷ takes 7 0 ∷ takes 9 0 ∷ takes 10 0 ∷ hears 0 1 ∷ hears 0 2 ∷ hears 0 3 ∷ hears 0 4 ∷ movesOn 0
+    ∷ sends 0 ∷ takes 6 5 ∷ takes 8 5 ∷ takes 9 5 ∷ takes 10 5 ∷ hears 0 6 ∷ hears 0 7 ∷ hears 0 8 ∷ hears 0 9 ∷ sends 0 ∷ takes 9 10 ∷ vanishes 0 ∷ []
+
+-- coordinator 5 recovers it above 20, so at ballot 21, and is gone before server 6 promises that
+gone : List Event
+gone = recovers 2 5 9 20 ∷ sends 2 ∷ vanishes 2 ∷ takes 6 12 ∷ []
+
+-- coordinator 2 recovers it above 9, so at ballot 10, and is behind; it tries again at ballot 26, is told Done by server 9, and commits that at the others
+recovery : List Event
+recovery =
+    recovers 1 2 9 9 ∷ sends 1 ∷ takes 6 14 ∷ hears 1 15 ∷ triesAgain 1 ∷ sends 1 ∷ takes 9 16 ∷ hears 1 17
+    ∷ sends 1 ∷ takes 6 18 ∷ takes 8 18 ∷ takes 10 18 ∷ []
+
+-- coordinator 4 starts 12: server 6 saw 9 before it and 8 did not; it moves on in phase 1 and commits
+conflicting : List Event
+conflicting =
+    starts 3 4 12 ∷ sends 3 ∷ takes 6 22 ∷ takes 8 22 ∷ hears 3 23 ∷ hears 3 24 ∷ movesOn 3
+    ∷ sends 3 ∷ takes 6 25 ∷ takes 8 25 ∷ hears 3 26 ∷ hears 3 27 ∷ sends 3 ∷ takes 6 28 ∷ takes 8 28 ∷ []
+
+-- two servers of each shard run, and server 6 tells the results of 12
+running : List Event
+running = runs 6 ∷ runs 6 ∷ runs 8 ∷ runs 8 ∷ runs 9 ∷ runs 10 ∷ fetches 6 12 ∷ []
+
+script : List Event
+script = exchange ++ (gone ++ (recovery ++ (conflicting ++ running)))
+
+-- ---- what it ends with
+
+pub record End : Type 0 where
+  pub at6 : Shown
+  pub at8 : Shown
+  pub at9 : Shown
+  pub at10 : Shown
+  pub told : Message
+  pub unheard : Message
+  pub station0 : Option Drive
+  pub station2 : Option Drive
+  pub order : List ℕ
+  pub taken : List Taken
+
+unfoldable pub endOf : Cluster → End
+endOf c = record {
+  at6 = shownAt c 6 12;
+  at8 = shownAt c 8 12;
+  at9 = shownAt c 9 9;
+  at10 = shownAt c 10 9;
+  told = sentAs c 31;
+  unheard = sentAs c 13;
+  station0 = c .stations 0;
+  station2 = c .stations 2;
+  order = c .order;
+  taken = c .taken;
+}
+
+-- what 12 gave: 20 and 1 and 2; and the 20 that was there, marked kept, since the sum leaves the signed 32 bits
+abbrev sums : List Value
+sums = record { value = pos 23; kept = 0 } ∷ record { value = pos 20; kept = 1 } ∷ []
+
+-- servers of shard 2
+unfoldable pub second : Shown
+second = record { log = 9 ∷ 12 ∷ []; counters = set (replicate 16 (pos 20)) 5 (pos 23); results = sums }
+
+-- servers of shard 3: the 7 of 9
+unfoldable pub third : Shown
+third = record { log = 9 ∷ []; counters = set (replicate 16 (pos 30)) 0 (pos 7); results = record { value = pos 7; kept = 0 } ∷ [] }
+
+-- servers of a shard show the same; the Fetch was answered with Results; the Prepare at ballot 21 was answered too, but no drive is where the two were that are gone; five ballots were taken
+unfoldable pub end : End
+end = record {
+  at6 = second;
+  at8 = second;
+  at9 = third;
+  at10 = third;
+  told = results 12 6 (record { list = sums ++ replicate 6 noValue; count = 2 });
+  unheard = prepareOK 9 6 21 (someWord 0) (someVote 0 noSet);
+  station0 = none;
+  station2 = none;
+  order = 9 ∷ 12 ∷ [];
+  taken = record { number = 12; ballot = 0 } ∷ record { number = 9; ballot = 26 } ∷ record { number = 9; ballot = 10 } ∷ record { number = 9; ballot = 21 } ∷ record { number = 9; ballot = 0 } ∷ [];
+}
+
+happens : onEnd endOf (play world script (atFirst world)) ≡ some end
+unfolding scripts nine twelve tens world exchange gone recovery conflicting running script endOf second third end
+happens = refl
+
+pub second-witness : (w : World) × (c : Cluster) × Reached w c × (endOf c ≡ end)
+second-witness = let e = ends-with world script endOf end happens in (world, e .0, e .1, e .2)
