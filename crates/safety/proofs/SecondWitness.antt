@@ -1,4 +1,4 @@
--- A second history that happens: two numbers on one key of shard 2, one of them on shard 3 too, where the first counters differ. A drive moves on in phase 1 and is gone; a rival recovery at a floor of 20 is gone too; a third, at a floor of 9, is behind, tries again and commits; all servers run in one order, a sum that is too large is kept, and a Fetch is answered with Results.
+-- A second history that happens: two numbers on one key of shard 2, one of them on shard 3 too, where the first counters differ. A drive moves on in phase 1 and is gone; a recovery at a floor of 20 is gone too; another, at a floor of 9, is behind, tries again, is told Done and commits. All servers run in one order, a sum that is too large is kept, and a Fetch is answered with Results.
 -- Assumes nothing.
 use mathlib.Core.Path.{_≡_, refl}
 use mathlib.Core.Option.{Option, none, some}
@@ -11,9 +11,11 @@ use Rattle.rules.specs.declared.Pieces.{Pieces}
 use Rattle.rules.specs.declared.Value.{Value}
 use Rattle.rules.specs.Choice.{_if_else_}
 use Rattle.rules.specs.Pieces.{noPiece, put, add}
+use Rattle.rules.specs.Sets.{noSet}
+use Rattle.rules.specs.Maybe.{someWord, someVote}
 use Rattle.rules.specs.Values.{noValue}
 use Rattle.wire.specs.declared.Message.{Message}
-use Rattle.wire.specs.Messages.{acceptOK, results}
+use Rattle.wire.specs.Messages.{prepareOK, results}
 use Rattle.counters.specs.declared.Counters.{Counters}
 use Rattle.drive.specs.declared.Drive.{Drive}
 use Rattle.safety.specs.Cluster.{World, Cluster, Taken, atFirst, Reached}
@@ -35,34 +37,34 @@ world : World
 unfolding tens
 world = record { pieces = λ t. nine if eqb t 9 else twelve; counters = tens; sixteen = λ k. refl }
 
--- coordinator 1 starts 9, hears two servers of each shard and moves on in phase 1; its drive is gone before server 6 answers its Accept
+-- coordinator 1 starts 9, hears two servers of each shard and moves on in phase 1; two of each accept, and it is gone when server 9 alone has its Commit
+exchange : List Event
+exchange =
+    starts 0 1 9 ∷ sends 0 ∷ takes 6 0 ∷ takes 7 0 ∷ takes 9 0 ∷ takes 10 0 ∷ hears 0 1 ∷ hears 0 2 ∷ hears 0 3 ∷ hears 0 4 ∷ movesOn 0
+    ∷ sends 0 ∷ takes 6 5 ∷ takes 8 5 ∷ takes 9 5 ∷ takes 10 5 ∷ hears 0 6 ∷ hears 0 7 ∷ hears 0 8 ∷ hears 0 9 ∷ sends 0 ∷ takes 9 10 ∷ vanishes 0 ∷ []
+
+-- coordinator 5 recovers it above 20, so at ballot 21, and is gone before server 6 promises that
 gone : List Event
-gone = starts 0 1 9 ∷ sends 0 ∷ takes 6 0 ∷ takes 7 0 ∷ takes 9 0 ∷ takes 10 0 ∷ hears 0 1 ∷ hears 0 2 ∷ hears 0 3 ∷ hears 0 4 ∷ movesOn 0 ∷ sends 0 ∷ vanishes 0 ∷ takes 6 5 ∷ []
+gone = recovers 2 5 9 20 ∷ sends 2 ∷ vanishes 2 ∷ takes 6 12 ∷ []
 
--- coordinator 5 recovers it above 20, so at ballot 21; server 6 promises that, and this drive is gone too
-rival : List Event
-rival = recovers 2 5 9 20 ∷ sends 2 ∷ takes 6 7 ∷ vanishes 2 ∷ []
-
--- coordinator 2 recovers it above 9, so at ballot 10, and is behind; it tries again at ballot 26, hears of the set that server 6 accepted, and commits that
+-- coordinator 2 recovers it above 9, so at ballot 10, and is behind; it tries again at ballot 26, is told Done by server 9, and commits that at the others
 recovery : List Event
 recovery =
-    recovers 1 2 9 9 ∷ sends 1 ∷ takes 6 9 ∷ hears 1 10 ∷ triesAgain 1
-    ∷ sends 1 ∷ takes 6 11 ∷ takes 7 11 ∷ takes 9 11 ∷ takes 10 11 ∷ hears 1 12 ∷ hears 1 13 ∷ hears 1 14 ∷ hears 1 15 ∷ movesOn 1
-    ∷ sends 1 ∷ takes 6 16 ∷ takes 8 16 ∷ takes 9 16 ∷ takes 10 16 ∷ hears 1 17 ∷ hears 1 18 ∷ hears 1 19 ∷ hears 1 20
-    ∷ sends 1 ∷ takes 6 21 ∷ takes 8 21 ∷ takes 9 21 ∷ takes 10 21 ∷ []
+    recovers 1 2 9 9 ∷ sends 1 ∷ takes 6 14 ∷ hears 1 15 ∷ triesAgain 1 ∷ sends 1 ∷ takes 9 16 ∷ hears 1 17
+    ∷ sends 1 ∷ takes 6 18 ∷ takes 8 18 ∷ takes 10 18 ∷ []
 
--- coordinator 4 starts 12: servers 6 and 7 saw 9 before it and 8 did not, so it goes by Accept
+-- coordinator 4 starts 12: server 6 saw 9 before it and 8 did not; it moves on in phase 1 and commits
 conflicting : List Event
 conflicting =
-    starts 3 4 12 ∷ sends 3 ∷ takes 6 26 ∷ takes 7 26 ∷ takes 8 26 ∷ hears 3 27 ∷ hears 3 28 ∷ hears 3 29
-    ∷ sends 3 ∷ takes 6 30 ∷ takes 8 30 ∷ hears 3 31 ∷ hears 3 32 ∷ sends 3 ∷ takes 6 33 ∷ takes 8 33 ∷ []
+    starts 3 4 12 ∷ sends 3 ∷ takes 6 22 ∷ takes 8 22 ∷ hears 3 23 ∷ hears 3 24 ∷ movesOn 3
+    ∷ sends 3 ∷ takes 6 25 ∷ takes 8 25 ∷ hears 3 26 ∷ hears 3 27 ∷ sends 3 ∷ takes 6 28 ∷ takes 8 28 ∷ []
 
 -- two servers of each shard run, and server 6 tells the results of 12
 running : List Event
 running = runs 6 ∷ runs 6 ∷ runs 8 ∷ runs 8 ∷ runs 9 ∷ runs 10 ∷ fetches 6 12 ∷ []
 
 script : List Event
-script = gone ++ (rival ++ (recovery ++ (conflicting ++ running)))
+script = exchange ++ (gone ++ (recovery ++ (conflicting ++ running)))
 
 -- ---- what it ends with
 
@@ -84,8 +86,8 @@ endOf c = record {
   at8 = shownAt c 8 12;
   at9 = shownAt c 9 9;
   at10 = shownAt c 10 9;
-  told = sentAs c 36;
-  unheard = sentAs c 6;
+  told = sentAs c 31;
+  unheard = sentAs c 13;
   station0 = c .stations 0;
   station2 = c .stations 2;
   order = c .order;
@@ -104,7 +106,7 @@ second = record { log = 9 ∷ 12 ∷ []; counters = set (replicate 16 (pos 20)) 
 unfoldable pub third : Shown
 third = record { log = 9 ∷ []; counters = set (replicate 16 (pos 30)) 0 (pos 7); results = record { value = pos 7; kept = 0 } ∷ [] }
 
--- servers of a shard show the same; the Fetch was answered with Results; the Accept of the first drive was answered too, but no drive is where the two were that are gone; five ballots were taken
+-- servers of a shard show the same; the Fetch was answered with Results; the Prepare at ballot 21 was answered too, but no drive is where the two were that are gone; five ballots were taken
 unfoldable pub end : End
 end = record {
   at6 = second;
@@ -112,7 +114,7 @@ end = record {
   at9 = third;
   at10 = third;
   told = results 12 6 (record { list = sums ++ replicate 6 noValue; count = 2 });
-  unheard = acceptOK 9 6 0;
+  unheard = prepareOK 9 6 21 (someWord 0) (someVote 0 noSet);
   station0 = none;
   station2 = none;
   order = 9 ∷ 12 ∷ [];
@@ -120,7 +122,7 @@ end = record {
 }
 
 happens : onEnd endOf (play world script (atFirst world)) ≡ some end
-unfolding scripts nine twelve tens world gone rival recovery conflicting running script endOf second third end
+unfolding scripts nine twelve tens world exchange gone recovery conflicting running script endOf second third end
 happens = refl
 
 pub second-witness : (w : World) × (c : Cluster) × Reached w c × (endOf c ≡ end)

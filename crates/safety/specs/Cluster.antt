@@ -71,7 +71,7 @@ homeOf i = shardOf (idOf i)
 
 unfoldable pub firstServer : World → ℕ → Server
 firstServer w i =
-    record { id = freshServer (idOf i) .id; records = freshServer (idOf i) .records; counters = w .counters (homeOf i); log = freshServer (idOf i) .log }
+    record { id = idOf i; records = freshServer (idOf i) .records; counters = w .counters (homeOf i); log = freshServer (idOf i) .log }
 
 unfoldable pub atFirst : World → Cluster
 atFirst w = record { servers = firstServer w; stations = λ j. none; taken = []; sent = []; order = [] }

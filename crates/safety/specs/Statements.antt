@@ -44,7 +44,7 @@ Coverage w c =
     (s s′ t u k : ℕ) (v v′ : Set) → Committed c s t v → Committed c s′ u v′ → t ≢ u → conflict k (w .pieces t) (w .pieces u) ≡ true →
     In (word v k) u ⊎ In (word v′ k) t
 
--- 3: one order of all numbers, in which every server ran its pairs in conflict: first the numbers that ran anywhere, as they first did, then the others, rising
+-- 3: one order of all numbers and of nothing else, in which every server ran its pairs in conflict: first the numbers that ran anywhere, as they first did, then the others, rising
 pub record OneOrder (w : World) (c : Cluster) : Type 0 where
   pub all : (t : ℕ) → t < NUMBERS → List·Memᴰ t (completed (c .order) NUMBERS)
   pub only : (t : ℕ) → List·Memᴰ t (completed (c .order) NUMBERS) → t < NUMBERS
