@@ -82,7 +82,7 @@ class Spot:
         w, h, st, f = self.walk, self.walk.held, self.st, self.field
         index = w.local[st.index]
         self.i = index.term
-        self.below = w.shown(f'{self.i} < {f.many}', 'below')
+        self.below = w.shown(f'{self.i} < {f.many}', f'{w.tellers.get(self.i, "index")}-below')
         bytes_, array, item = st.temps
         word = f'(in-word {f.many} (size {f.kind.mir}) {self.i} tt {self.below})'
         w.assign(bytes_, f'bin ! {w.load(st.index)} (lit ! tt) {word}', pointer('_'), f'(tt, {word})')

@@ -18,9 +18,8 @@ use Rattle.server_lent.proofs.planning.plan_by.Reads as server-lent·planning·
 use Rattle.server_lent.proofs.planning.planned_plan.Reads as server-lent·planning·planned-plan-contract
 use Rattle.server_lent.proofs.planning.planned_end.Reads as server-lent·planning·planned-end-contract
 use Rattle.server_lent.proofs.planning.planned_many.Reads as server-lent·planning·planned-many-contract
-use Rattle.server_lent.proofs.running.listed.Reads as server-lent·running·listed-contract
+use Rattle.server_lent.proofs.running.spot.Reads as server-lent·running·spot-contract
 use Rattle.server_lent.proofs.running.executed.Reads as server-lent·running·executed-contract
-use Rattle.server_lent.proofs.running.plan_shard.Reads as server-lent·running·plan-shard-contract
 use Rattle.server_lent.proofs.running.ran_counters.Reads as server-lent·running·ran-counters-contract
 use Rattle.server_lent.proofs.running.ran_values.Reads as server-lent·running·ran-values-contract
 use Rattle.server_lent.proofs.running.few.Reads as server-lent·running·few-contract
@@ -85,14 +84,11 @@ server-lent·planning·planned-end κ a x y e e′ p q = p ∙ sym q
 pub server-lent·planning·planned-many : Answers server-lent·planning·planned-many-contract.Post
 server-lent·planning·planned-many κ a x y e e′ p q = p ∙ sym q
 
-pub server-lent·running·listed : Answers server-lent·running·listed-contract.Post
-server-lent·running·listed κ a x y e e′ p q = p ∙ sym q
+pub server-lent·running·spot : Answers server-lent·running·spot-contract.Post
+server-lent·running·spot κ a x y e e′ p q = p ∙ sym q
 
 pub server-lent·running·executed : Answers server-lent·running·executed-contract.Post
 server-lent·running·executed κ a x y e e′ p q = p ∙ sym q
-
-pub server-lent·running·plan-shard : Answers server-lent·running·plan-shard-contract.Post
-server-lent·running·plan-shard κ a x y e e′ p q = p ∙ sym q
 
 pub server-lent·running·ran-counters : Answers server-lent·running·ran-counters-contract.Post
 server-lent·running·ran-counters κ a x y e e′ p q = p ∙ sym q

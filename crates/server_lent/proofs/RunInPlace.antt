@@ -26,7 +26,7 @@ use Rattle.server.specs.declared.Log.{Log}
 use Rattle.server.specs.declared.Record.{Record}
 use Rattle.server.specs.declared.Server.{Server}
 use Rattle.server.specs.Held.{noRecord, recordAt, putRecord}
-use Rattle.server_lent.specs.Listed.{listedAt, ranListed, fewOf}
+use Rattle.server_lent.specs.Listed.{spotOf, listedAt, ranListed, fewOf}
 
 module _ (ps : Pieces) (k : ℕ) (c : Counters) (i : ℕ) (x : Executed) (e : x ≡ iter (runEntry ps k) (begun c) i) where
   pub part-count : x .values .count ≤ i
@@ -35,9 +35,9 @@ module _ (ps : Pieces) (k : ℕ) (c : Counters) (i : ℕ) (x : Executed) (e : x 
   pub part-keys : length (c .list) ≡ 16 → length (x .counters .list) ≡ 16
   part-keys l = ap (λ (y : Executed). length (y .counters .list)) e ∙ length-after ps k (begun c) i ∙ l
 
-listed-lt : (p : Plan) (t : ℕ) → listedAt p t < 64
-unfolding listedAt
-listed-lt p t = ⊎-elim (λ h. rw h (place-lt (getD (p .list) (p .first + t) 0) _ refl)) (λ h. rw h (omega arith)) (true-or-false (ltb (p .first + t) 64))
+spot-lt : (first t : ℕ) → spotOf first t < 64
+unfolding spotOf
+spot-lt first t = ⊎-elim (λ h. rw h (ltb-true (first + t) 64 h)) (λ h. rw h (omega arith)) (true-or-false (ltb (first + t) 64))
 
 few-le : (many : ℕ) → fewOf many ≤ 64
 unfolding fewOf
@@ -71,8 +71,11 @@ module _ (s : Server) (p : Plan) (c : Counters) (many i : ℕ) where
   abbrev with-values : Server
   with-values = putRecord before (listedAt p i) (valued (execute (x .pieces) (p .shard) (ranListed p s c i .counters) .values) x)
 
-  pub run-listed-below : listedAt p i < 64
-  run-listed-below = listed-lt p i
+  pub run-listed-spot-below : spotOf (p .first) i < 64
+  run-listed-spot-below = spot-lt (p .first) i
+
+  pub run-listed-place-of-below : placeOf (getD (p .list) (spotOf (p .first) i) 0) < 64
+  run-listed-place-of-below = place-lt (getD (p .list) (spotOf (p .first) i) 0) _ refl
 
   pub run-listed-left-next : putRecord with-values (listedAt p i) (marked (recordAt with-values (listedAt p i))) ≡ ranListed p s c (suc i) .server
   unfolding ranListed iter

@@ -34,7 +34,7 @@ use Rattle.server_lent.specs.declared.form.Form.{Form}
 use Rattle.server_lent.specs.declared.running.Plan.{Plan}
 use Rattle.server_lent.specs.declared.planning.Planned.{Planned}
 use Rattle.server_lent.specs.declared.planning.Waiting.{Waiting}
-use Rattle.server_lent.specs.Listed.{listedAt, ranPlanned}
+use Rattle.server_lent.specs.Listed.{spotOf, listedAt, ranPlanned}
 use Rattle.server_lent.specs.Planning.{unrunOf, committedWith, waitingTurn, waitingIn, noted, loggedOf, plannedLog, plannedBy}
 use Rattle.server_lent.proofs.AlongTheLog.{risen, runs, order, turns-runs, count-after, entry-after, plan-runs}
 use Rattle.server.proofs.Server as RServer
@@ -149,7 +149,7 @@ module _ (s : Server) (limit : ℕ) (records : length (s .records) ≡ 64) (keys
   list-is = ap (λ (l : Log). l .list) (log-is ∙ ap (λ (x : Server). x .log) reached)
 
   listed-is : (s .log .count + length us ≤ 64) → (t : ℕ) → t < length us → listedAt (plan .plan) t ≡ getD us t 0
-  unfolding listedAt plannedBy
+  unfolding spotOf plannedBy
   listed-is r t l =
       let at : getD (plan .plan .list) (s .log .count + t) 0 ≡ getD us t 0 = ap (λ (xs : List ℕ). getD xs (s .log .count + t) 0) list-is ∙ entry-after us s t l (omega (arith, r, places)) in
       let near : ltb (s .log .count + t) 64 ≡ true = lt-ltb (s .log .count + t) 64 (omega (arith, l, r)) in

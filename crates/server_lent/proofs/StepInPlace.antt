@@ -70,8 +70,8 @@ module _ (s : Server) (m : Message) where
   abbrev asks : Asked
   asks = askedOf form (recordAt s place) m
 
-  pub consider-below : place < 64
-  consider-below = place-lt (m .t) place refl
+  pub consider-place-for-below : place < 64
+  consider-place-for-below = place-lt (m .t) place refl
 
   pub consider-earlier-in : asks .many ≤ 64
   consider-earlier-in = many-few form (recordAt s place) m asks (asks .many) refl refl

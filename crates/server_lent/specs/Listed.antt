@@ -13,9 +13,13 @@ use Rattle.server.specs.Run.{withResults}
 use Rattle.server_step.specs.OneStore.{placeOf}
 use Rattle.server_lent.specs.declared.running.Plan.{Plan}
 
--- the number at a place of the plan, or any where there is none
-unfoldable pub listedAt : Plan → ℕ → ℕ
-listedAt p t = placeOf (getD (p .list) (p .first + t) 0) if ltb (p .first + t) 64 else 0
+-- where the plan has its number t, or any place where it has none
+unfoldable pub spotOf : (first t : ℕ) → ℕ
+spotOf first t = first + t if ltb (first + t) 64 else 0
+
+-- the number at a place of the plan
+abbrev pub listedAt : Plan → ℕ → ℕ
+listedAt p t = placeOf (getD (p .list) (spotOf (p .first) t) 0)
 
 pub record Listed : Type 0 where
   pub server : Server

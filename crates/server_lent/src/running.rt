@@ -2,7 +2,7 @@
 ghost use mathlib.Core.Path.{_≡_};
 ghost use Prim.Native.Nat.{_<_, _≤_};
 ghost use Rattle.counters.specs.Effects.{execute};
-ghost use Rattle.server_lent.specs.Listed.{listedAt, ranListed, fewOf, ranPlanned};
+ghost use Rattle.server_lent.specs.Listed.{spotOf, ranListed, fewOf, ranPlanned};
 use counters::Counters;
 use counters::Executed;
 use messages::blanks::no_values;
@@ -20,18 +20,13 @@ pub struct Plan {
     pub list: [u32; 64],
 }
 
-// The number at a place of the plan, or any where there is none.
-pub fn listed(p: Plan, t: usize) -> usize
+// Where the plan has its number `t`, or any place where it has none.
+pub fn spot(first: u32, t: usize) -> usize
     requires { ⌜ t < 64 ⌝ }
-    ensures { λ r. ⌜ r ≡ listedAt p t ⌝ }
+    ensures { λ r. ⌜ r ≡ spotOf first t ⌝ }
 {
-    let at = p.first as usize + t;
-    let within = at < 64;
-    if within {
-        let u = p.list[at];
-        return place_of(u);
-    }
-    0
+    let at = first as usize + t;
+    if at < 64 { at } else { 0 }
 }
 
 // The pieces of a number on shard `k`, one after the other.
@@ -61,12 +56,6 @@ pub fn executed(ps: Pieces, k: u32, c: Counters) -> Executed
     Executed { counters, values }
 }
 
-pub fn plan_shard(p: Plan) -> u32
-    ensures { λ r. ⌜ r ≡ p .shard ⌝ }
-{
-    p.shard
-}
-
 pub fn ran_counters(o: Executed) -> Counters
     ensures { λ r. ⌜ r ≡ o .counters ⌝ }
 {
@@ -84,11 +73,14 @@ pub fn run_listed(s: &mut Server, p: Plan, c0: Counters, many: usize) -> Counter
     requires { ⌜ many ≤ 64 ⌝ }
     ensures { λ r. ⌜ (r ≡ ranListed p (now (s .entry)) c0 many .counters) × (now (s .exit) ≡ ranListed p (now (s .entry)) c0 many .server) ⌝ }
 {
-    let k = plan_shard(p);
+    let k = p.shard;
+    let first = p.first;
     let mut c = c0;
     let mut t: usize = 0;
     while t < many {
-        let u = listed(p, t);
+        let at = spot(first, t);
+        let n = p.list[at];
+        let u = place_of(n);
         let ps = s.records[u].pieces;
         let o = executed(ps, k, c);
         let v = ran_values(o);

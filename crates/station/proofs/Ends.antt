@@ -50,8 +50,8 @@ module _ (s : Server) (input z : List ℕ) where
   pub server-take-told : Sound s → answered .answer ≡ take s input z .answer
   server-take-told was = ap (λ (t : Taken). t .answer) (answered-is was) ∙ take-told s input z
 
-  pub server-take-below : Sound s → answered .place < 64
-  server-take-below was = rw (answered-is was) (take-below s input z)
+  pub server-take-taken-place-below : Sound s → answered .place < 64
+  server-take-taken-place-below was = rw (answered-is was) (take-below s input z)
 
   pub server-take-left : Sound s → putRecord s (answered .place) (answered .after) ≡ take s input z .server
   server-take-left was = ap (λ (t : Taken). putRecord s (t .place) (t .after)) (answered-is was) ∙ take-left s input z
@@ -83,8 +83,8 @@ module _ (s : Server) where
 -- ---- the results
 
 module _ (s : Server) (t place : ℕ) where
-  pub server-result-below : placeOf t < 64
-  server-result-below = place-lt t (placeOf t) refl
+  pub server-result-place-of-below : placeOf t < 64
+  server-result-place-of-below = place-lt t (placeOf t) refl
 
   pub server-result-told : resultAt (recordAt s (placeOf t)) t place ≡ result s t place
   unfolding result resultAt placeOf
@@ -103,8 +103,8 @@ module _ (d : Drive) (input : List ℕ) where
   pub drive-take-told : o .refusal ≡ takeReply d input .refusal
   drive-take-told = weigh-reply-told d input
 
-  pub drive-take-below : o .place < 12
-  drive-take-below = weigh-reply-below d input
+  pub drive-take-place-below : o .place < 12
+  drive-take-place-below = weigh-reply-below d input
 
   pub drive-take-left-refused : there (o .refusal) ≡ true → d ≡ takeReply d input .drive
   drive-take-left-refused = weigh-reply-refused d input

@@ -1,4 +1,5 @@
--- `server_lent::running::run_planned` meets its contract, by a walk of its MIR. Written by tools/lent_proofs. Assumes nothing.
+-- `server_lent::running::run_planned` meets its contract, by a walk of its MIR: the borrow of the Server is opened once, the Server is read, lent on and changed in its place, and the borrow is closed at what it then is.
+-- All that the proof knows of a callee is that it meets its contract. Written by tools/lent_proofs. Assumes nothing.
 use mathlib.Core.Path.{_≡_, refl, subst, _∙_}
 use Prim.Native.Nat.{ℕ, zero, _≤_}
 use mathlib.Core.List.{[], _∷_, List}
@@ -104,9 +105,9 @@ told-1-is : (s : Server) (p : Plan) (log : Log) (many : ℕ) → fewOf many ≡ 
 unfolding told-1
 told-1-is s p log many = refl
 
-run-listed-3 : (s : Server) (p : Plan) (log : Log) (many : ℕ) → (told-1 s p log many) ≤ 64
+run-listed-3 : (s : Server) (p : Plan) (log : Log) (many : ℕ) → Sound s → (told-1 s p log many) ≤ 64
 unfolding told-1
-run-listed-3 s p log many = run-planned-run-listed s p log many
+run-listed-3 s p log many was = run-planned-run-listed s p log many
 
 unfoldable told-3 : (s : Server) (p : Plan) (log : Log) (many : ℕ) → Counters
 told-3 s p log many = ranListed p s (s .counters) (told-1 s p log many) .counters
@@ -222,7 +223,7 @@ module _ {M : Type 1} (𝓤 : URA M) (H : Heap 𝓤) (A : Atoms 𝓤) (W : Given
         -- server_lent::running::run_listed
         assigns ! (addr ! (from ! (hop ! (look ! 18 refl) (stop !)))) (from ! (stop !)) (init ! 4 refl (tt, tt)) $
         lends-cell-mut ! tt RServer.the-row (Is RServer.the-row) (shows 𝓤 H A RServer.the-row) (LL.makes RServer.the-type LServer.the-plain 𝓤 H A) (LL.vals RServer.the-type LServer.the-laws) (LL.tells RServer.the-type LServer.the-laws) b o s was (λ α δ.
-        use2 W (raw (C-run-listed 𝓤 H A at-mem routines .pre (to-3 α δ))) (goes-3 α δ is-p is-2 is-1 (run-listed-3 s p log many)) $
+        use2 W (raw (C-run-listed 𝓤 H A at-mem routines .pre (to-3 α δ))) (goes-3 α δ is-p is-2 is-1 (run-listed-3 s p log many was)) $
         calls-at ! (fmOf 𝓤 H (W .laws) 𝓣) (C-run-listed 𝓤 H A at-mem routines) known-run-listed (to-3 α δ) (and-then ! (load ! (from ! (stop !)) (look ! 5 refl)) (and-then ! (load ! (from ! (stop !)) (look ! 17 refl)) (and-then ! (load ! (from ! (stop !)) (look ! 9 refl)) (and-then ! (load ! (from ! (stop !)) (look ! 11 refl)) (no-more !))))) (λ v.
         use1 W (later (some (λ (r : Counters). ((‵ (flft (α ∷ []) fullShare) ⊛ ‵ ftrue) ⊛ ‵ (RCounters.the-row .own r (v ∷ []))) ⊛ raw (ensured 𝓤 H A fn-run-listed.ended (fn-run-listed.clauses 𝓤 H A at-mem routines) ((α ∷ []), tt) ((record { ptr = (b, o); name = δ; now = s }), (p, ((s .counters), ((told-1 s p log many), tt)))) tt r)))) (id⊢ 𝓤 _) $ await ! tt $ pick ! (λ x.
         split ! $ move ! (1 ∷ []) $

@@ -1,4 +1,5 @@
--- `server_lent::stepping::consider` meets its contract, by a walk of its MIR. Written by tools/lent_proofs. Assumes nothing.
+-- `server_lent::stepping::consider` meets its contract, by a walk of its MIR: the Server is read in its place, and lent on as it was lent.
+-- All that the proof knows of a callee is that it meets its contract. Written by tools/lent_proofs. Assumes nothing.
 use mathlib.Core.Path.{_≡_, refl, _∙_}
 use Prim.Native.Nat.{ℕ, zero, _<_, _≤_}
 use native.Mathlib.Nat.{le-refl}
@@ -44,7 +45,7 @@ use denote.Struct.Laws as LL
 use Rattle.server_step.specs.OneStore.{placeOf, considered}
 use Rattle.server_lent.specs.InPlace.{earlierIn, askedOf, concludedOf, formBegun, formIn}
 use Rattle.server.specs.Held.{noRecord}
-use Rattle.server_lent.proofs.StepInPlace.{consider-below, consider-earlier-in, consider-told}
+use Rattle.server_lent.proofs.StepInPlace.{consider-place-for-below, consider-earlier-in, consider-told}
 use Rattle.server.specs.declared.Server.{Server}
 use Rattle.server.proofs.Server as RServer
 use Rattle.server.proofs.Server.Laws as LServer
@@ -137,9 +138,9 @@ told-3-is : (s : Server) (m : Message) → placeOf (m .t) ≡ told-3 s m
 unfolding told-3
 told-3-is s m = refl
 
-below-4 : (s : Server) (m : Message) → (told-3 s m) < 64
+place-for-below-4 : (s : Server) (m : Message) → Sound s → (told-3 s m) < 64
 unfolding told-1 told-2 told-3
-below-4 s m = consider-below s m
+place-for-below-4 s m was = consider-place-for-below s m
 
 unfoldable told-9 : (s : Server) (m : Message) → Asked
 told-9 s m = askedOf (told-2 s m) (getD (s .records) (told-3 s m) noRecord) m
@@ -162,9 +163,9 @@ told-11-is : (s : Server) (m : Message) → (told-9 s m) .earlier ≡ told-11 s 
 unfolding told-11
 told-11-is s m = refl
 
-earlier-in-12 : (s : Server) (m : Message) → (told-10 s m) ≤ 64
+earlier-in-12 : (s : Server) (m : Message) → Sound s → (told-10 s m) ≤ 64
 unfolding told-1 told-2 told-3 told-9 told-10 told-11
-earlier-in-12 s m = consider-earlier-in s m
+earlier-in-12 s m was = consider-earlier-in s m
 
 unfoldable told-12 : (s : Server) (m : Message) → Earlier
 told-12 s m = earlierIn s (told-11 s m) (told-10 s m)
@@ -315,7 +316,7 @@ module _ {M : Type 1} (𝓤 : URA M) (H : Heap 𝓤) (A : Atoms 𝓤) (W : Given
     step-12 is-1 is-2 is-3 is-4 is-9 is-10 is-11 =
         -- server_lent::stepping::earlier_in
         move ! (1 ∷ []) $ use1 W (‵ lent ⊛ ‵ lent) (shr-copy 𝓤 H A W (named 0) κ RServer.the-row .twice sr (vptr b o ∷ [])) $ split ! $ move ! (2 ∷ 0 ∷ []) $
-        use2 W (raw (C-earlier-in 𝓤 H A at-mem routines .pre (to-12))) (goes-12 is-11 is-10 (earlier-in-12 s m)) $
+        use2 W (raw (C-earlier-in 𝓤 H A at-mem routines .pre (to-12))) (goes-12 is-11 is-10 (earlier-in-12 s m was)) $
         calls-at ! (fmOf 𝓤 H (W .laws) 𝓣) (C-earlier-in 𝓤 H A at-mem routines) known-earlier-in (to-12) (and-then ! (load ! (from ! (stop !)) (look ! 28 refl)) (and-then ! (load ! (from ! (stop !)) (look ! 12 refl)) (and-then ! (load ! (from ! (stop !)) (look ! 14 refl)) (no-more !)))) (λ v.
         use1 W (later (some (λ (r : Earlier). ((‵ (flft κ q) ⊛ ‵ ftrue) ⊛ ‵ (REarlier.the-row .own r (v ∷ []))) ⊛ raw (ensured 𝓤 H A fn-earlier-in.ended (fn-earlier-in.clauses 𝓤 H A at-mem routines) (κ, tt) (sr, ((told-11 s m), ((told-10 s m), tt))) tt r)))) (id⊢ 𝓤 _) $ await ! tt $ pick ! (λ x.
         split ! $ move ! (1 ∷ []) $
@@ -371,12 +372,12 @@ module _ {M : Type 1} (𝓤 : URA M) (H : Heap 𝓤) (A : Atoms 𝓤) (W : Given
     step-4 is-1 is-2 is-3 =
         move ! (1 ∷ []) $ use1 W (‵ lent ⊛ ‵ lent) (shr-copy 𝓤 H A W (named 0) κ RServer.the-row .twice sr (vptr b o ∷ [])) $ split ! $ fsplit3 ! $ drop ! $ drop ! $ move ! (0 ∷ 2 ∷ []) $
         looks ! tt RServer.the-row (Is RServer.the-row) (shows 𝓤 H A RServer.the-row) (LL.vals RServer.the-type LServer.the-laws) (LL.tells RServer.the-type LServer.the-laws) (LL.copy RServer.the-type LServer.the-copy 𝓤 H A W) s b o (λ q″ vs. spelt ! RServer.the-row (Is RServer.the-row) (shows 𝓤 H A RServer.the-row) (LL.vals RServer.the-type LServer.the-laws) (LL.tells RServer.the-type LServer.the-laws) q″ s vs b o $
-        assigns ! (bin ! (load ! (from ! (stop !)) (look ! 23 refl)) (lit ! tt) (in-word 64 (size LRecord.mir) (told-3 s m) tt (below-4 s m))) (from ! (stop !)) (init ! 11 refl (tt, (in-word 64 (size LRecord.mir) (told-3 s m) tt (below-4 s m)))) $
+        assigns ! (bin ! (load ! (from ! (stop !)) (look ! 23 refl)) (lit ! tt) (in-word 64 (size LRecord.mir) (told-3 s m) tt (place-for-below-4 s m was))) (from ! (stop !)) (init ! 11 refl (tt, (in-word 64 (size LRecord.mir) (told-3 s m) tt (place-for-below-4 s m was)))) $
         assigns ! (addr ! (from ! (hop ! (look ! 31 refl) (fld ! {τ = tyArray LRecord.mir 64} {d = 8} (Server-records-lies .0) (stop !))))) (from ! (stop !)) (init ! 9 refl (tt, tt)) $
         assigns ! (bin ! (load ! (from ! (stop !)) (look ! 9 refl)) (load ! (from ! (stop !)) (look ! 11 refl)) tt) (from ! (stop !)) (init ! 7 refl (tt, tt)) $
-        assigns ! (of-opd ! (load ! (from ! (hop ! (look ! 7 refl) (stop !))) (look-elem ! 0 RRecord.the-field LRecord.the-field-laws 64 (s .records) (told-3 s m) noRecord (Server-records-is s was) (below-4 s m) (sub ! 1 {τ = rawArray LRecord.mir 64} {d = 8} (Server-records-lies .1) (whole !))))) (from ! (stop !)) (init ! 5 refl (LL.lawful RRecord.the-type LRecord.the-laws 𝓤 H A W .typed (getD (s .records) (told-3 s m) noRecord) _ (elem-is RRecord.the-field LRecord.the-field-laws 64 (s .records) (told-3 s m) noRecord (Server-records-is s was) (below-4 s m)) .0)) $
+        assigns ! (of-opd ! (load ! (from ! (hop ! (look ! 7 refl) (stop !))) (look-elem ! 0 RRecord.the-field LRecord.the-field-laws 64 (s .records) (told-3 s m) noRecord (Server-records-is s was) (place-for-below-4 s m was) (sub ! 1 {τ = rawArray LRecord.mir 64} {d = 8} (Server-records-lies .1) (whole !))))) (from ! (stop !)) (init ! 5 refl (LL.lawful RRecord.the-type LRecord.the-laws 𝓤 H A W .typed (getD (s .records) (told-3 s m) noRecord) _ (elem-is RRecord.the-field LRecord.the-field-laws 64 (s .records) (told-3 s m) noRecord (Server-records-is s was) (place-for-below-4 s m was)) .0)) $
         shuts ! tt RServer.the-row q″ s ((LL.vals RServer.the-type LServer.the-laws) s) b o $ move ! (1 ∷ []) $ drop ! $ forget ! 4 refl $ forget ! 6 refl $ forget ! 8 refl $
-        step-8 is-1 is-2 is-3 (elem-is RRecord.the-field LRecord.the-field-laws 64 (s .records) (told-3 s m) noRecord (Server-records-is s was) (below-4 s m)))
+        step-8 is-1 is-2 is-3 (elem-is RRecord.the-field LRecord.the-field-laws 64 (s .records) (told-3 s m) noRecord (Server-records-is s was) (place-for-below-4 s m was)))
 
     step-3 : (is-1 : Is RForm.the-row (told-1 s m) ((LL.val RForm.the-type LForm.the-laws (told-1 s m)) ∷ [])) (is-2 : Is RForm.the-row (told-2 s m) ((LL.val RForm.the-type LForm.the-laws (told-2 s m)) ∷ [])) → Sq W (‵ (flft κ q) ∷ ‵ lent ∷ ‵ (froom LRecord.mir l14 zero) ∷ ‵ (fdies LRecord.mir l14) ∷ ‵ (froom tyPtr l13 zero) ∷ ‵ (fdies tyPtr l13) ∷ ‵ (froom tyPtr l12 zero) ∷ ‵ (fdies tyPtr l12) ∷ ‵ (froom (tyInt w64) l11 zero) ∷ ‵ (fdies (tyInt w64) l11) ∷ ‵ (froom LEarlier.mir l10 zero) ∷ ‵ (fdies LEarlier.mir l10) ∷ ‵ (froom LEarlier.mir l9 zero) ∷ ‵ (fdies LEarlier.mir l9) ∷ ‵ (froom (tyInt w64) l8 zero) ∷ ‵ (fdies (tyInt w64) l8) ∷ ‵ (froom LAsked.mir l7 zero) ∷ ‵ (fdies LAsked.mir l7) ∷ ‵ (froom LRecord.mir l6 zero) ∷ ‵ (fdies LRecord.mir l6) ∷ ‵ (froom (tyInt w64) l5 zero) ∷ ‵ (fdies (tyInt w64) l5) ∷ ‵ (fat fullShare LForm.mir l4 zero (LL.val RForm.the-type LForm.the-laws (told-2 s m))) ∷ ‵ (fdies LForm.mir l4) ∷ ‵ (fat fullShare LForm.mir l3 zero (LL.val RForm.the-type LForm.the-laws (told-1 s m))) ∷ ‵ (fdies LForm.mir l3) ∷ ‵ (fat fullShare LMessage.mir l2 zero (LL.val RMessage.the-type LMessage.the-laws m)) ∷ ‵ (fdies LMessage.mir l2) ∷ ‵ (fat fullShare (tyRef (named 0) imm (pointee (RServer.the-row .written))) l1 zero (vptr b o)) ∷ ‵ (fdies (tyRef (named 0) imm (pointee (RServer.the-row .written))) l1) ∷ ‵ (froom LConsidered.mir l0 zero) ∷ ‵ (fdies LConsidered.mir l0) ∷ []) (runs (𝓣 .C) (𝓣 .Λ) En code-mir.t-3 (atRet En Post))
     step-3 is-1 is-2 =

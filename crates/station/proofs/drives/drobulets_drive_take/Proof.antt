@@ -46,7 +46,7 @@ use denote.Struct.Laws as LL
 use Rattle.door.specs.Exchange.{takeReply, weighReply}
 use Rattle.rules.specs.Flags.{there}
 use Rattle.drive_step.specs.Weighing.{turned}
-use Rattle.station.proofs.Ends.{drive-take-told, drive-take-left-refused, drive-take-left-turns, drive-take-below, drive-take-left}
+use Rattle.station.proofs.Ends.{drive-take-told, drive-take-left-refused, drive-take-left-turns, drive-take-place-below, drive-take-left}
 use Rattle.drive.specs.declared.Drive.{Drive}
 use Rattle.drive.proofs.Drive as RDrive
 use Rattle.drive.proofs.Drive.Laws as LDrive
@@ -204,9 +204,9 @@ told-12-is : (s : Drive) (input : List ℕ) → (told-2 s input) .seen ≡ told-
 unfolding told-12
 told-12-is s input = refl
 
-below-13 : (s : Drive) (input : List ℕ) → Sound s → (told-10 s input) < 12
+place-below-13 : (s : Drive) (input : List ℕ) → Sound s → (told-10 s input) < 12
 unfolding told-2 told-3 told-4 told-7 told-9-1 left-9-2 told-10 told-11 told-12
-below-13 s input was = drive-take-below s input
+place-below-13 s input was = drive-take-place-below s input
 
 unfoldable left-13 : (s : Drive) (input : List ℕ) → Drive
 left-13 s input = (with-Drive-answers s (told-10 s input) (told-11 s input))
@@ -356,10 +356,10 @@ module _ {M : Type 1} (𝓤 : URA M) (H : Heap 𝓤) (A : Atoms 𝓤) (W : Given
 
     step-13 : (is-1 : Is RDrive.the-row s ((LL.val RDrive.the-type LDrive.the-laws s) ∷ [])) (is-2 : Is RWeighed.the-row (told-2 s (input .now)) ((LL.val RWeighed.the-type LWeighed.the-laws (told-2 s (input .now))) ∷ [])) (is-3 : Is u32 (told-3 s (input .now)) ((vint w32 (told-3 s (input .now))) ∷ [])) (is-4 : Is Boolean (told-4 s (input .now)) ((vbool (told-4 s (input .now))) ∷ [])) (test-6 : (told-4 s (input .now)) ≡ false) (is-7 : Is Boolean (told-7 s (input .now)) ((vbool (told-7 s (input .now))) ∷ [])) (test-9 : (told-7 s (input .now)) ≡ false) (is-10 : Is usize (told-10 s (input .now)) ((vint w64 (told-10 s (input .now))) ∷ [])) (is-11 : Is RAnswer.the-row (told-11 s (input .now)) ((LL.val RAnswer.the-type LAnswer.the-laws (told-11 s (input .now))) ∷ [])) (is-12 : Is u32 (told-12 s (input .now)) ((vint w32 (told-12 s (input .now))) ∷ [])) → Sq W (‵ (flft κ1 q1) ∷ ‵ (cellAt fullShare (RDrive.the-row .mir) ((LL.vals RDrive.the-type LDrive.the-laws) s) b o) ∷ ‵ (fobor κ q (Body (mem RDrive.the-row) b o γ)) ∷ ‵ (fobs γ (RDrive.the-row .coded .code s)) ∷ ‵ (fauth γ (RDrive.the-row .coded .code s)) ∷ ‵ (froom tyPtr l15 zero) ∷ ‵ (fdies tyPtr l15) ∷ ‵ (froom tyPtr l14 zero) ∷ ‵ (fdies tyPtr l14) ∷ ‵ (froom (tyInt w64) l13 zero) ∷ ‵ (fdies (tyInt w64) l13) ∷ ‵ (fat fullShare tyBool l12 zero (vbool (told-7 s (input .now)))) ∷ ‵ (fdies tyBool l12) ∷ ‵ (fat fullShare LDrive.mir l11 zero (LL.val RDrive.the-type LDrive.the-laws s)) ∷ ‵ (fdies LDrive.mir l11) ∷ ‵ (fat fullShare (tyInt w32) l10 zero (vint w32 (told-12 s (input .now)))) ∷ ‵ (fdies (tyInt w32) l10) ∷ ‵ (fat fullShare LAnswer.mir l9 zero (LL.val RAnswer.the-type LAnswer.the-laws (told-11 s (input .now)))) ∷ ‵ (fdies LAnswer.mir l9) ∷ ‵ (fat fullShare (tyInt w64) l8 zero (vint w64 (told-10 s (input .now)))) ∷ ‵ (fdies (tyInt w64) l8) ∷ ‵ (froom LDrive.mir l7 zero) ∷ ‵ (fdies LDrive.mir l7) ∷ ‵ (fat fullShare tyBool l6 zero (vbool (told-7 s (input .now)))) ∷ ‵ (fdies tyBool l6) ∷ ‵ (fat fullShare tyBool l5 zero (vbool (told-4 s (input .now)))) ∷ ‵ (fdies tyBool l5) ∷ ‵ (fat fullShare (tyInt w32) l4 zero (vint w32 (told-3 s (input .now)))) ∷ ‵ (fdies (tyInt w32) l4) ∷ ‵ (fat fullShare LWeighed.mir l3 zero (LL.val RWeighed.the-type LWeighed.the-laws (told-2 s (input .now)))) ∷ ‵ (fdies LWeighed.mir l3) ∷ ‵ (fat fullShare (sliceTy (tyRef (named 1) imm (tyInt w8))) l2 zero (sliceVal (input .ptr) (length (input .now)))) ∷ ‵ (fdies (sliceTy (tyRef (named 1) imm (tyInt w8))) l2) ∷ ‵ (fat fullShare (tyRef (named 0) mut (pointee (RDrive.the-row .written))) l1 zero (vptr b o)) ∷ ‵ (fdies (tyRef (named 0) mut (pointee (RDrive.the-row .written))) l1) ∷ ‵ (froom (tyInt w32) l0 zero) ∷ ‵ (fdies (tyInt w32) l0) ∷ []) (runs (𝓣 .C) (𝓣 .Λ) En code-mir.t-13 (atRet En Post))
     step-13 is-1 is-2 is-3 is-4 test-6 is-7 test-9 is-10 is-11 is-12 =
-        assigns ! (bin ! (load ! (from ! (stop !)) (look ! 19 refl)) (lit ! tt) (in-word 12 (size LAnswer.mir) (told-10 s (input .now)) tt (below-13 s (input .now) was))) (from ! (stop !)) (init ! 9 refl (tt, (in-word 12 (size LAnswer.mir) (told-10 s (input .now)) tt (below-13 s (input .now) was)))) $
+        assigns ! (bin ! (load ! (from ! (stop !)) (look ! 19 refl)) (lit ! tt) (in-word 12 (size LAnswer.mir) (told-10 s (input .now)) tt (place-below-13 s (input .now) was))) (from ! (stop !)) (init ! 9 refl (tt, (in-word 12 (size LAnswer.mir) (told-10 s (input .now)) tt (place-below-13 s (input .now) was)))) $
         assigns ! (addr ! (from ! (hop ! (look ! 33 refl) (fld ! {τ = tyArray LAnswer.mir 12} {d = 152} (Drive-answers-lies .0) (stop !))))) (from ! (stop !)) (init ! 7 refl (tt, tt)) $
         assigns ! (bin ! (load ! (from ! (stop !)) (look ! 7 refl)) (load ! (from ! (stop !)) (look ! 9 refl)) tt) (from ! (stop !)) (init ! 5 refl (tt, tt)) $
-        assigns ! (of-opd ! (load ! (from ! (stop !)) (look ! 17 refl))) (from ! (hop ! (look ! 5 refl) (stop !))) (store-elem ! 1 RAnswer.the-field LAnswer.the-field-laws 12 (s .answers) (told-10 s (input .now)) (told-11 s (input .now)) (Drive-answers-is s is-1) (below-13 s (input .now) was) is-11 (sub ! 5 {τ = rawArray LAnswer.mir 12} {d = 152} (Drive-answers-lies .1) (whole !)) (LL.lawful RAnswer.the-type LAnswer.the-laws 𝓤 H A W .typed (told-11 s (input .now)) _ is-11 .0)) $
+        assigns ! (of-opd ! (load ! (from ! (stop !)) (look ! 17 refl))) (from ! (hop ! (look ! 5 refl) (stop !))) (store-elem ! 1 RAnswer.the-field LAnswer.the-field-laws 12 (s .answers) (told-10 s (input .now)) (told-11 s (input .now)) (Drive-answers-is s is-1) (place-below-13 s (input .now) was) is-11 (sub ! 5 {τ = rawArray LAnswer.mir 12} {d = 152} (Drive-answers-lies .1) (whole !)) (LL.lawful RAnswer.the-type LAnswer.the-laws 𝓤 H A W .typed (told-11 s (input .now)) _ is-11 .0)) $
         forget ! 5 refl $ forget ! 7 refl $ forget ! 9 refl $ rewrite ! 1 (λ (h : Drive). ‵ (cellAt fullShare (RDrive.the-row .mir) ((LL.vals RDrive.the-type LDrive.the-laws) h) b o)) (refl ∙ left-13-is s (input .now)) refl $
         step-17 is-1 is-2 is-3 is-4 test-6 is-7 test-9 is-10 is-11 is-12 (subst Sound (refl ∙ left-13-is s (input .now)) (made-Drive-answers s (told-10 s (input .now)) (told-11 s (input .now)) is-1 is-11))
 

@@ -43,7 +43,7 @@ use denote.Struct.Laws as LL
 use Rattle.door.specs.Readings.{result, resultAt}
 use Rattle.server_step.specs.OneStore.{placeOf}
 use Rattle.server.specs.Held.{noRecord}
-use Rattle.station.proofs.Ends.{server-result-below, server-result-told}
+use Rattle.station.proofs.Ends.{server-result-place-of-below, server-result-told}
 use Rattle.server.specs.declared.Server.{Server}
 use Rattle.server.proofs.Server as RServer
 use Rattle.server.proofs.Server.Laws as LServer
@@ -86,9 +86,9 @@ told-1-is : (s : Server) (t : ℕ) (place : ℕ) → placeOf t ≡ told-1 s t pl
 unfolding told-1
 told-1-is s t place = refl
 
-below-2 : (s : Server) (t : ℕ) (place : ℕ) → Sound s → (told-1 s t place) < 64
+place-of-below-2 : (s : Server) (t : ℕ) (place : ℕ) → Sound s → (told-1 s t place) < 64
 unfolding told-1
-below-2 s t place was = server-result-below s t place
+place-of-below-2 s t place was = server-result-place-of-below s t place
 
 unfoldable told-7 : (s : Server) (t : ℕ) (place : ℕ) → Reading
 told-7 s t place = resultAt (getD (s .records) (told-1 s t place) noRecord) t place
@@ -180,12 +180,12 @@ module _ {M : Type 1} (𝓤 : URA M) (H : Heap 𝓤) (A : Atoms 𝓤) (W : Given
     step-2 is-1 =
         move ! (1 ∷ []) $ use1 W (‵ lent ⊛ ‵ lent) (shr-copy 𝓤 H A W (named 0) κ RServer.the-row .twice sr (vptr b o ∷ [])) $ split ! $ fsplit3 ! $ drop ! $ drop ! $ move ! (0 ∷ 2 ∷ []) $
         looks ! tt RServer.the-row (Is RServer.the-row) (shows 𝓤 H A RServer.the-row) (LL.vals RServer.the-type LServer.the-laws) (LL.tells RServer.the-type LServer.the-laws) (LL.copy RServer.the-type LServer.the-copy 𝓤 H A W) s b o (λ q″ vs. spelt ! RServer.the-row (Is RServer.the-row) (shows 𝓤 H A RServer.the-row) (LL.vals RServer.the-type LServer.the-laws) (LL.tells RServer.the-type LServer.the-laws) q″ s vs b o $
-        assigns ! (bin ! (load ! (from ! (stop !)) (look ! 15 refl)) (lit ! tt) (in-word 64 (size LRecord.mir) (told-1 s t place) tt (below-2 s t place was))) (from ! (stop !)) (init ! 11 refl (tt, (in-word 64 (size LRecord.mir) (told-1 s t place) tt (below-2 s t place was)))) $
+        assigns ! (bin ! (load ! (from ! (stop !)) (look ! 15 refl)) (lit ! tt) (in-word 64 (size LRecord.mir) (told-1 s t place) tt (place-of-below-2 s t place was))) (from ! (stop !)) (init ! 11 refl (tt, (in-word 64 (size LRecord.mir) (told-1 s t place) tt (place-of-below-2 s t place was)))) $
         assigns ! (addr ! (from ! (hop ! (look ! 21 refl) (fld ! {τ = tyArray LRecord.mir 64} {d = 8} (Server-records-lies .0) (stop !))))) (from ! (stop !)) (init ! 9 refl (tt, tt)) $
         assigns ! (bin ! (load ! (from ! (stop !)) (look ! 9 refl)) (load ! (from ! (stop !)) (look ! 11 refl)) tt) (from ! (stop !)) (init ! 7 refl (tt, tt)) $
-        assigns ! (of-opd ! (load ! (from ! (hop ! (look ! 7 refl) (stop !))) (look-elem ! 0 RRecord.the-field LRecord.the-field-laws 64 (s .records) (told-1 s t place) noRecord (Server-records-is s was) (below-2 s t place was) (sub ! 1 {τ = rawArray LRecord.mir 64} {d = 8} (Server-records-lies .1) (whole !))))) (from ! (stop !)) (init ! 5 refl (LL.lawful RRecord.the-type LRecord.the-laws 𝓤 H A W .typed (getD (s .records) (told-1 s t place) noRecord) _ (elem-is RRecord.the-field LRecord.the-field-laws 64 (s .records) (told-1 s t place) noRecord (Server-records-is s was) (below-2 s t place was)) .0)) $
+        assigns ! (of-opd ! (load ! (from ! (hop ! (look ! 7 refl) (stop !))) (look-elem ! 0 RRecord.the-field LRecord.the-field-laws 64 (s .records) (told-1 s t place) noRecord (Server-records-is s was) (place-of-below-2 s t place was) (sub ! 1 {τ = rawArray LRecord.mir 64} {d = 8} (Server-records-lies .1) (whole !))))) (from ! (stop !)) (init ! 5 refl (LL.lawful RRecord.the-type LRecord.the-laws 𝓤 H A W .typed (getD (s .records) (told-1 s t place) noRecord) _ (elem-is RRecord.the-field LRecord.the-field-laws 64 (s .records) (told-1 s t place) noRecord (Server-records-is s was) (place-of-below-2 s t place was)) .0)) $
         shuts ! tt RServer.the-row q″ s ((LL.vals RServer.the-type LServer.the-laws) s) b o $ move ! (1 ∷ []) $ drop ! $ forget ! 4 refl $ forget ! 6 refl $ forget ! 8 refl $
-        step-6 is-1 (elem-is RRecord.the-field LRecord.the-field-laws 64 (s .records) (told-1 s t place) noRecord (Server-records-is s was) (below-2 s t place was)))
+        step-6 is-1 (elem-is RRecord.the-field LRecord.the-field-laws 64 (s .records) (told-1 s t place) noRecord (Server-records-is s was) (place-of-below-2 s t place was)))
 
     step-1 : Sq W (‵ (flft κ q) ∷ ‵ lent ∷ ‵ (froom LRecord.mir l9 zero) ∷ ‵ (fdies LRecord.mir l9) ∷ ‵ (froom tyPtr l8 zero) ∷ ‵ (fdies tyPtr l8) ∷ ‵ (froom tyPtr l7 zero) ∷ ‵ (fdies tyPtr l7) ∷ ‵ (froom (tyInt w64) l6 zero) ∷ ‵ (fdies (tyInt w64) l6) ∷ ‵ (froom LRecord.mir l5 zero) ∷ ‵ (fdies LRecord.mir l5) ∷ ‵ (froom (tyInt w64) l4 zero) ∷ ‵ (fdies (tyInt w64) l4) ∷ ‵ (fat fullShare (tyInt w32) l3 zero (vint w32 place)) ∷ ‵ (fdies (tyInt w32) l3) ∷ ‵ (fat fullShare (tyInt w32) l2 zero (vint w32 t)) ∷ ‵ (fdies (tyInt w32) l2) ∷ ‵ (fat fullShare (tyRef (named 0) imm (pointee (RServer.the-row .written))) l1 zero (vptr b o)) ∷ ‵ (fdies (tyRef (named 0) imm (pointee (RServer.the-row .written))) l1) ∷ ‵ (froom LReading.mir l0 zero) ∷ ‵ (fdies LReading.mir l0) ∷ []) (runs (𝓣 .C) (𝓣 .Λ) En code-mir.t-1 (atRet En Post))
     step-1 =

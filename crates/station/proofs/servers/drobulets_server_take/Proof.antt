@@ -45,7 +45,7 @@ use Rattle.lent.proofs.Values.{spelled-as, is-spelled}
 use denote.Struct.Laws as LL
 use Rattle.door.specs.Exchange.{take, heardOf, answerOf, writtenOf}
 use Rattle.wire.specs.Bytes.{decode}
-use Rattle.station.proofs.Ends.{server-take-below, server-take-told, server-take-left, server-take-written}
+use Rattle.station.proofs.Ends.{server-take-taken-place-below, server-take-told, server-take-left, server-take-written}
 use Rattle.server.specs.declared.Server.{Server}
 use Rattle.server.proofs.Server as RServer
 use Rattle.server.proofs.Server.Laws as LServer
@@ -163,9 +163,9 @@ told-9-is : (s : Server) (input : List ℕ) (output : List ℕ) → (told-4 s in
 unfolding told-9
 told-9-is s input output = refl
 
-below-10 : (s : Server) (input : List ℕ) (output : List ℕ) → Sound s → (told-8 s input output) < 64
+taken-place-below-10 : (s : Server) (input : List ℕ) (output : List ℕ) → Sound s → (told-8 s input output) < 64
 unfolding told-1 told-2 bytes-4 told-4 told-7 told-8 told-9
-below-10 s input output was = server-take-below s input output was
+taken-place-below-10 s input output was = server-take-taken-place-below s input output was
 
 unfoldable left-10 : (s : Server) (input : List ℕ) (output : List ℕ) → Server
 left-10 s input output = (with-Server-records s (told-8 s input output) (told-9 s input output))
@@ -288,10 +288,10 @@ module _ {M : Type 1} (𝓤 : URA M) (H : Heap 𝓤) (A : Atoms 𝓤) (W : Given
 
     step-10 : (is-1 : Is RDecoded.the-row (told-1 s (input .now) (output .now)) ((LL.val RDecoded.the-type LDecoded.the-laws (told-1 s (input .now) (output .now))) ∷ [])) (is-2 : Is RConsidered.the-row (told-2 s (input .now) (output .now)) ((LL.val RConsidered.the-type LConsidered.the-laws (told-2 s (input .now) (output .now))) ∷ [])) (same-4 : length (bytes-4 s (input .now) (output .now)) ≡ length (output .now)) (is-4 : Is RTaken.the-row (told-4 s (input .now) (output .now)) ((LL.val RTaken.the-type LTaken.the-laws (told-4 s (input .now) (output .now))) ∷ [])) (is-7 : Is RAnswer.the-row (told-7 s (input .now) (output .now)) ((LL.val RAnswer.the-type LAnswer.the-laws (told-7 s (input .now) (output .now))) ∷ [])) (is-8 : Is usize (told-8 s (input .now) (output .now)) ((vint w64 (told-8 s (input .now) (output .now))) ∷ [])) (is-9 : Is RRecord.the-row (told-9 s (input .now) (output .now)) ((LL.val RRecord.the-type LRecord.the-laws (told-9 s (input .now) (output .now))) ∷ [])) → Sq W (‵ (flft κ2 q2) ∷ ‵ (finally u8 (output .name) (bytes-4 s (input .now) (output .now))) ∷ ‵ (cellAt fullShare (RServer.the-row .mir) ((LL.vals RServer.the-type LServer.the-laws) s) b o) ∷ ‵ (flft κ1 q1) ∷ ‵ (fobor κ q (Body (mem RServer.the-row) b o γ)) ∷ ‵ (fobs γ (RServer.the-row .coded .code s)) ∷ ‵ (fauth γ (RServer.the-row .coded .code s)) ∷ ‵ (froom tyPtr l15 zero) ∷ ‵ (fdies tyPtr l15) ∷ ‵ (froom tyPtr l14 zero) ∷ ‵ (fdies tyPtr l14) ∷ ‵ (froom (tyInt w64) l13 zero) ∷ ‵ (fdies (tyInt w64) l13) ∷ ‵ (fat fullShare (sliceTy (tyRef erased mut (tyInt w8))) l12 zero (sliceVal (output .ptr) (length (output .now)))) ∷ ‵ (fdies (sliceTy (tyRef erased mut (tyInt w8))) l12) ∷ ‵ (fat fullShare (tyRef erased mut (tyInt w8)) l11 zero (vptr (output .ptr .0) (output .ptr .1))) ∷ ‵ (fdies (tyRef erased mut (tyInt w8)) l11) ∷ ‵ (fat fullShare (tyRef erased imm (pointee (RServer.the-row .written))) l10 zero (vptr b o)) ∷ ‵ (fdies (tyRef erased imm (pointee (RServer.the-row .written))) l10) ∷ ‵ (fat fullShare LRecord.mir l9 zero (LL.val RRecord.the-type LRecord.the-laws (told-9 s (input .now) (output .now)))) ∷ ‵ (fdies LRecord.mir l9) ∷ ‵ (fat fullShare (tyInt w64) l8 zero (vint w64 (told-8 s (input .now) (output .now)))) ∷ ‵ (fdies (tyInt w64) l8) ∷ ‵ (fat fullShare LAnswer.mir l7 zero (LL.val RAnswer.the-type LAnswer.the-laws (told-7 s (input .now) (output .now)))) ∷ ‵ (fdies LAnswer.mir l7) ∷ ‵ (fat fullShare LTaken.mir l6 zero (LL.val RTaken.the-type LTaken.the-laws (told-4 s (input .now) (output .now)))) ∷ ‵ (fdies LTaken.mir l6) ∷ ‵ (fat fullShare LConsidered.mir l5 zero (LL.val RConsidered.the-type LConsidered.the-laws (told-2 s (input .now) (output .now)))) ∷ ‵ (fdies LConsidered.mir l5) ∷ ‵ (fat fullShare LDecoded.mir l4 zero (LL.val RDecoded.the-type LDecoded.the-laws (told-1 s (input .now) (output .now)))) ∷ ‵ (fdies LDecoded.mir l4) ∷ ‵ (fat fullShare (sliceTy (tyRef (named 2) mut (tyInt w8))) l3 zero (sliceVal (output .ptr) (length (output .now)))) ∷ ‵ (fdies (sliceTy (tyRef (named 2) mut (tyInt w8))) l3) ∷ ‵ (fat fullShare (sliceTy (tyRef (named 1) imm (tyInt w8))) l2 zero (sliceVal (input .ptr) (length (input .now)))) ∷ ‵ (fdies (sliceTy (tyRef (named 1) imm (tyInt w8))) l2) ∷ ‵ (fat fullShare (tyRef (named 0) mut (pointee (RServer.the-row .written))) l1 zero (vptr b o)) ∷ ‵ (fdies (tyRef (named 0) mut (pointee (RServer.the-row .written))) l1) ∷ ‵ (froom LAnswer.mir l0 zero) ∷ ‵ (fdies LAnswer.mir l0) ∷ []) (runs (𝓣 .C) (𝓣 .Λ) En code-mir.t-10 (atRet En Post))
     step-10 is-1 is-2 same-4 is-4 is-7 is-8 is-9 =
-        assigns ! (bin ! (load ! (from ! (stop !)) (look ! 21 refl)) (lit ! tt) (in-word 64 (size LRecord.mir) (told-8 s (input .now) (output .now)) tt (below-10 s (input .now) (output .now) was))) (from ! (stop !)) (init ! 11 refl (tt, (in-word 64 (size LRecord.mir) (told-8 s (input .now) (output .now)) tt (below-10 s (input .now) (output .now) was)))) $
+        assigns ! (bin ! (load ! (from ! (stop !)) (look ! 21 refl)) (lit ! tt) (in-word 64 (size LRecord.mir) (told-8 s (input .now) (output .now)) tt (taken-place-below-10 s (input .now) (output .now) was))) (from ! (stop !)) (init ! 11 refl (tt, (in-word 64 (size LRecord.mir) (told-8 s (input .now) (output .now)) tt (taken-place-below-10 s (input .now) (output .now) was)))) $
         assigns ! (addr ! (from ! (hop ! (look ! 35 refl) (fld ! {τ = tyArray LRecord.mir 64} {d = 8} (Server-records-lies .0) (stop !))))) (from ! (stop !)) (init ! 9 refl (tt, tt)) $
         assigns ! (bin ! (load ! (from ! (stop !)) (look ! 9 refl)) (load ! (from ! (stop !)) (look ! 11 refl)) tt) (from ! (stop !)) (init ! 7 refl (tt, tt)) $
-        assigns ! (of-opd ! (load ! (from ! (stop !)) (look ! 19 refl))) (from ! (hop ! (look ! 7 refl) (stop !))) (store-elem ! 2 RRecord.the-field LRecord.the-field-laws 64 (s .records) (told-8 s (input .now) (output .now)) (told-9 s (input .now) (output .now)) (Server-records-is s was) (below-10 s (input .now) (output .now) was) is-9 (sub ! 1 {τ = rawArray LRecord.mir 64} {d = 8} (Server-records-lies .1) (whole !)) (LL.lawful RRecord.the-type LRecord.the-laws 𝓤 H A W .typed (told-9 s (input .now) (output .now)) _ is-9 .0)) $
+        assigns ! (of-opd ! (load ! (from ! (stop !)) (look ! 19 refl))) (from ! (hop ! (look ! 7 refl) (stop !))) (store-elem ! 2 RRecord.the-field LRecord.the-field-laws 64 (s .records) (told-8 s (input .now) (output .now)) (told-9 s (input .now) (output .now)) (Server-records-is s was) (taken-place-below-10 s (input .now) (output .now) was) is-9 (sub ! 1 {τ = rawArray LRecord.mir 64} {d = 8} (Server-records-lies .1) (whole !)) (LL.lawful RRecord.the-type LRecord.the-laws 𝓤 H A W .typed (told-9 s (input .now) (output .now)) _ is-9 .0)) $
         forget ! 7 refl $ forget ! 9 refl $ forget ! 11 refl $
         rewrite ! 2 (λ (h : Server). ‵ (cellAt fullShare (RServer.the-row .mir) ((LL.vals RServer.the-type LServer.the-laws) h) b o)) (refl ∙ left-10-is s (input .now) (output .now)) refl $
         step-14 is-1 is-2 same-4 is-4 is-7 is-8 is-9 (subst Sound (refl ∙ left-10-is s (input .now) (output .now)) (made-Server-records s (told-8 s (input .now) (output .now)) (told-9 s (input .now) (output .now)) was is-9))
