@@ -153,9 +153,9 @@ class Call:
             if x.name == 'lent-copy':
                 w.copies_reference()
         h.move(*[y for x in self.lent for y in (x.token, x.name)])
-        ghost = f'(to-{self.tag}{w.index_given()}{self.also()})'
+        ghost = f'(to-{self.tag}{w.index_name()}{self.also()})'
         facts = [x.fact for x in self.args if isinstance(x, Value)] + self.requirement()
-        h.say(f'use{2 * len(self.lent)} W (raw ({c.spoken} .pre {ghost})) (goes-{self.tag}{w.index_given()}{self.also()} {" ".join(facts)}) $')
+        h.say(f'use{2 * len(self.lent)} W (raw ({c.spoken} .pre {ghost})) (goes-{self.tag}{w.index_name()}{self.also()} {" ".join(facts)}) $')
         h.replace(2 * len(self.lent), 'call')
         operands = ''.join(f'(and-then ! {"(lit ! tt)" if isinstance(a, Literal) else w.load(a)} ' for a in st.args) + '(no-more !)' + ')' * len(st.args)
         h.say(f'calls-at ! (fmOf 𝓤 H (W .laws) 𝓣) ({c.spoken}) known-{c.alias} {ghost} {operands} (λ v.')

@@ -1,21 +1,17 @@
 """The walk of one function that is lent a state: statement by statement through its MIR, with a lemma for each."""
-import copy
 import re
-from lent.calls import Call, Callee
+from lent.calls import Call
 from lent.held import Held, Value, closed, one_line, pointer, row
-from lent.kinds import Number, Slice, Struct, Truth, kind_of, machine
+from lent.kinds import Number, Slice, kind_of, machine
+from lent.leaving import Leaving
 from lent.loops import Loop
 from lent.mir import Literal, routines, statements
+from lent.naming import Naming
 from lent.places import read, store
-from lent.sources import Contract, hyphens, laws, unfoldable
+from lent.sources import Contract, hyphens
 from public_functions import public_functions
 
 RESERVED = {'a', 'at', 'b', 'e', 'i', 'is', 'o', 'q', 's', 'u', 'v', 'x', 'f', 'l', 'h', 'was', 'req'}
-
-
-def asks_sound(law):
-    """Whether a law asks that the state is one of its type."""
-    return bool(re.search(r'\bIs\b|\bSound\b', law[1]))
 
 
 def lent_functions():
@@ -34,7 +30,7 @@ class SliceParameter:
         self.last = self.same = None
 
 
-class Walk:
+class Walk(Naming, Leaving):
     """The function, what is known of it, and the walk as far as it is made."""
 
     def __init__(self, path):
@@ -58,97 +54,6 @@ class Walk:
         self.cur, self.was, self.number, self.arm, self.tests = 's', 'was', 1, '', []
         self.statements = statements(routine.body)
         self.start()
-
-    # ---- what is taken from where
-
-    def note(self, kind):
-        if isinstance(kind, Struct):
-            self.structs.setdefault(kind.path, kind)
-
-    def callee(self, path):
-        if path not in self.callees:
-            callee = self.callees[path] = Callee(path, self.crate)
-            for kind in [callee.result] + callee.params:
-                self.note(kind)
-            for name, module in callee.cites().items():
-                self.cited.setdefault(name, module)
-        return self.callees[path]
-
-    def cite(self, module, name):
-        self.cited.setdefault(name, module)
-        return name
-
-    def part(self, part):
-        self.parts.setdefault(part.tag, part)
-
-    def stored(self, part):
-        self.parts_stored.setdefault(part.tag, part)
-
-    # ---- names
-
-    def tag(self):
-        return ('turn-' if self.loop else '') + str(self.number) + self.arm
-
-    def bound(self):
-        """The parameters of a definition."""
-        return ' '.join([f'(s : {self.state.denot})'] + [f'({name} : {"List ℕ" if isinstance(kind, Slice) else kind.denot})' for name, kind in self.params] + ([self.bound_index()] if self.loop else []))
-
-    def bound_index(self):
-        return '(i : ℕ)' if self.loop else ''
-
-    def index_name(self):
-        return ' i' if self.loop else ''
-
-    index_given = index_name
-
-    def args(self, inner=False):
-        return ' '.join([x.removesuffix(' .now)').lstrip('(') if inner else x for x in self.given]) + self.index_name()
-
-    def inner(self, text):
-        """A term, where the slices are the lists that they hold."""
-        for p in self.slices.values():
-            text = text.replace(f'({p.name} .now)', p.name)
-        return text
-
-    def define(self, prefix, tag, denot, text):
-        """A name for a value: what the value is stays closed until a proof asks for it."""
-        name = f'{prefix}-{tag}'
-        inner = self.inner(text)
-        self.definitions += [f'unfoldable {name} : {self.bound()} → {denot}', f'{name} {self.args(True)} = {inner}', '',
-                             f'{name}-is : {self.bound()} → {inner} ≡ {name} {self.args(True)}', f'unfolding {name}', f'{name}-is {self.args(True)} = refl', '']
-        self.defined_names.append(name)
-        return f'({name} {self.args()})'
-
-    def defined(self, prefix, tag):
-        return f'{prefix}-{tag}-is {self.args()}'
-
-    def learn(self, name, kind, term):
-        """A fact that the later lemmas are given by its name. Here it is the term."""
-        self.learned.append((name, kind, term))
-        return term
-
-    # ---- laws
-
-    def find_law(self, name):
-        found = laws(self.crate).get(name)
-        if found:
-            self.cite(found[0], name)
-        return found
-
-    def shown(self, statement, what):
-        """The proof of a fact about numbers: by itself, by the count of the loop, or by the law that is named for it."""
-        few = re.fullmatch(r'(\d+) ≤ (\d+)', statement)
-        if few and few.group(1) == few.group(2):
-            return f'(le-refl {few.group(1)})'
-        if self.loop and statement == f'i < {self.loop.limit}':
-            return 'below'
-        name = f'{self.law}-{what}'
-        found = self.find_law(name)
-        if not found:
-            raise SystemExit(f'{self.contract.path}: no law {name} shows {statement}')
-        lemma, was = f'{what}-{self.tag()}', ' was' * asks_sound(found)
-        self.definitions += [f'{lemma} : {self.bound()} → Sound s → {self.inner(statement)}', f'unfolding {" ".join(self.defined_names)}', f'{lemma} {self.args(True)} was = {name} {self.args(True)}{was}', '']
-        return f'({lemma} {self.args()} was)'
 
     # ---- what is held
 
@@ -309,77 +214,3 @@ class Walk:
             self.lemmas.append(self.lemma(name, known, context, f'code-mir.t-{int(name[5:])}', self.held.lines))
             self.settle()
         return [line for lemma in reversed(self.lemmas) for line in lemma]
-
-    def branch(self, st):
-        """A test, and the way that returns; the other way goes on."""
-        h, test = self.held, self.local[st.test]
-        h.say(f'first ! $ branches ! {self.load(st.test)}')
-        other = copy.copy(self)
-        other.held, other.local, other.learned, other.slices = Held(h.names), {k: copy.copy(v) for k, v in self.local.items()}, list(self.learned), {k: copy.copy(v) for k, v in self.slices.items()}
-        way = self.tellers[test.term]
-        other.tests = self.tests + [(way, f'(is-true {test.term} h)', 'true', test.term)]
-        for j, inner in enumerate(statements(st.taken)):
-            other.arm = f'-{j + 1}'
-            if inner.what == 'return':
-                other.leave(True, way)
-            else:
-                other.do(inner)
-        h.lines += ['(λ h.'] + one_line(other.held.lines)
-        opened = '\n'.join(x for x in h.lines[1:] if not x.startswith('--'))
-        h.lines[-1] += ')' * (opened.count('(') - opened.count(')'))
-        self.learn(f'test-{self.number}', f'{test.term} ≡ false', f'(is-false {test.term} h)')
-        self.tests = self.tests + [(way, f'test-{self.number}', 'false', test.term)]
-        h.say(f'(λ h. skips ! $ exec ! (𝓣 .C) (𝓣 .Λ) En code-mir.t-{self.number + 1} (atRet En Post) $ {self.next_lemma(f"step-{self.number + 1}")})')
-
-    def leave(self, within, way=None):
-        """The borrow is closed, the result returned, every local freed, and the contract met."""
-        h, r = self.held, self.state.row
-        if self.changes:
-            h.move('cell')
-            h.say(f'owned ! {r} (Is {r}) {self.state.makes} {self.cur} _ {self.was} $')
-            h.names.insert(0, 'own')
-            h.move('cell', 'own', 'obor', 'obs', 'auth')
-            h.say(f'closes ! tt {r} {self.cur} ({self.state.vals} {self.cur}) b o $')
-            h.replace(5, 'obs-left', 'bor', 'tok')
-        result = self.local[0]
-        h.say(f'{"returns-within ! Post refl" if within else "returns !"} (look ! {h.at("l0")} refl) $')
-        self.forget(list(self.local))
-        for i in range(len(self.types)):
-            h.move(f'l{i}', f'd{i}')
-            h.say('free1 ! $')
-            h.replace(2)
-        h.say('free0 ! $')
-        h.say('nothing ! $')
-        h.names.insert(0, 'tokens')
-        for p in reversed(self.slices.values()):
-            h.join(f'tok-{p.lifetime}', 'tokens', 'tokens')
-        written = [p for p in self.slices.values() if p.written]
-        h.keep(*(['obs-left', 'bor'] if self.changes else []), 'tok', 'tokens', *[f'final-{p.lifetime}' for p in written])
-        ends = [self.ending('told', result.term, self.contract.result(self.given), way)]
-        if self.changes:
-            ends.append(self.ending('left', self.cur, self.contract.last(0, self.given), way))
-        for p in written:
-            i = 1 + [name for name, _ in self.params].index(p.name)
-            ends.append(self.ending('written', p.last, self.contract.last(i, self.given), way))
-        state = f'{self.cur} ' if self.changes else ''
-        h.say(f'by ! (exits {state}{result.term} {result.machine} {"".join(p.last + " " for p in written)}{" ".join(ends)} {"".join(p.same + " " for p in written)}{result.fact})')
-
-    def ending(self, what, value, contract, way):
-        """That a value at the end is what the contract says, by the law that is named for it where there is one."""
-        if value == contract:
-            return 'refl'
-        tests = [t for t in self.tests] if what == 'left' else []
-        law = f'{self.law}-{what}' + (f'-{way}' if way and what == 'left' else '')
-        lemma = f'{what}-end{"-" + way if way else ""}'
-        found = self.find_law(law)
-        was = found and asks_sound(found)
-        asks = ['Sound s'] + [f'{term} ≡ {b}' for _, _, b, term in tests]
-        said = '' if found else ' '.join([contract] + self.definitions)
-        unfolds = self.defined_names + sorted({n for n in re.findall(r"[\w′-]+", said) if n in self.cited and unfoldable(self.cited[n], n)})
-        names = [f't{i}' for i in range(len(tests))]
-        self.definitions += [f'{lemma} : {self.bound()} → ' + ''.join(f'{self.inner(a)} → ' for a in asks) + f'{self.inner(value)} ≡ {self.inner(contract)}',
-                             f'unfolding {" ".join(unfolds)}', f'{lemma} {self.args(True)} was {" ".join(names)} = ' + (f'{law} {self.args(True)}{" was" if was else ""} {" ".join(names)}' if found else 'refl'), '']
-        return f'({lemma} {self.args()} was {" ".join(known for _, known, _, _ in tests)})'
-
-    def requires(self, given=None):
-        return self.contract.term(self.contract.requires, given or self.given)

@@ -1,4 +1,5 @@
--- `server_lent::first::fresh` meets its contract, by a walk of its MIR. Written by tools/lent_proofs. Assumes nothing.
+-- `server_lent::first::fresh` meets its contract, by a walk of its MIR: the borrow of the Server is opened once, the Server is read, lent on and changed in its place, and the borrow is closed at what it then is.
+-- All that the proof knows of a callee is that it meets its contract. Written by tools/lent_proofs. Assumes nothing.
 use mathlib.Core.Path.{_≡_, refl, subst, _∙_}
 use Prim.Native.Nat.{ℕ, zero, _≤_}
 use mathlib.Core.List.{[], _∷_, List}
@@ -129,9 +130,9 @@ told-1-is : (s : Server) (id : ℕ) → manyOf id ≡ told-1 s id
 unfolding told-1
 told-1-is s id = refl
 
-fresh-records-2 : (s : Server) (id : ℕ) → (told-1 s id) ≤ 64
+fresh-records-2 : (s : Server) (id : ℕ) → Sound s → (told-1 s id) ≤ 64
 unfolding told-1
-fresh-records-2 s id = fresh-fresh-records s id
+fresh-records-2 s id was = fresh-fresh-records s id
 
 unfoldable told-2 : (s : Server) (id : ℕ) → ℕ
 told-2 s id = (told-1 s id)
@@ -385,7 +386,7 @@ module _ {M : Type 1} (𝓤 : URA M) (H : Heap 𝓤) (A : Atoms 𝓤) (W : Given
         -- server_lent::first::fresh_records
         assigns ! (addr ! (from ! (hop ! (look ! 24 refl) (stop !)))) (from ! (stop !)) (init ! 4 refl (tt, tt)) $
         lends-cell-mut ! tt RServer.the-row (Is RServer.the-row) (shows 𝓤 H A RServer.the-row) (LL.makes RServer.the-type LServer.the-plain 𝓤 H A) (LL.vals RServer.the-type LServer.the-laws) (LL.tells RServer.the-type LServer.the-laws) b o s was (λ α δ.
-        use2 W (raw (C-fresh-records 𝓤 H A at-mem routines .pre (to-2 α δ))) (goes-2 α δ is-1 (fresh-records-2 s id)) $
+        use2 W (raw (C-fresh-records 𝓤 H A at-mem routines .pre (to-2 α δ))) (goes-2 α δ is-1 (fresh-records-2 s id was)) $
         calls-at ! (fmOf 𝓤 H (W .laws) 𝓣) (C-fresh-records 𝓤 H A at-mem routines) known-fresh-records (to-2 α δ) (and-then ! (load ! (from ! (stop !)) (look ! 5 refl)) (and-then ! (load ! (from ! (stop !)) (look ! 21 refl)) (no-more !))) (λ v.
         use1 W (later (some (λ (r : ℕ). ((‵ (flft (α ∷ []) fullShare) ⊛ ‵ ftrue) ⊛ ‵ (usize .own r (v ∷ []))) ⊛ raw (ensured 𝓤 H A fn-fresh-records.ended (fn-fresh-records.clauses 𝓤 H A at-mem routines) ((α ∷ []), tt) ((record { ptr = (b, o); name = δ; now = s }), ((told-1 s id), tt)) tt r)))) (id⊢ 𝓤 _) $ await ! tt $ pick ! (λ x.
         split ! $ move ! (1 ∷ []) $
