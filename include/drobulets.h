@@ -35,7 +35,7 @@ enum drobulets_limit {
     DROBULETS_KEYS = 16,
     DROBULETS_PIECES = 8,
     DROBULETS_LONGEST = 176, /* bytes of the longest message: an output of this size is never too short */
-    DROBULETS_STACK = 131072 /* bytes of stack that are enough for every function below */
+    DROBULETS_STACK = 8192 /* bytes of stack that are enough for every function below */
 };
 
 /* Why a call was refused. 0 is no refusal. */

@@ -1,10 +1,11 @@
-/* How much stack the exported functions take: each runs on a painted stack of its own, and what is no longer paint was used. The header's DROBULETS_STACK must be enough. */
+/* How much stack the exported functions take: each runs on a painted stack of its own, and what is no longer paint was used; what a call of nothing uses is the thread's own.
+ * A server has 19.8 KB and a drive 1.0: so a function that copied a server could not pass here. The header's DROBULETS_STACK must be enough. */
 #define _GNU_SOURCE
 #include "check.h"
 #include <pthread.h>
 #include <sys/mman.h>
 
-enum { ROOM = 1 << 20, PAINT = 0xC3 };
+enum { ROOM = 1 << 20, PAINT = 0xC3, MOST = 6 * 1024, MOST_OF_A_STEP = 5 * 1024 };
 
 static drobulets_server *server;
 static drobulets_drive *drive;
@@ -13,6 +14,7 @@ static size_t length;
 static drobulets_message message;
 static drobulets_pieces pieces;
 
+static void nothing(void) {}
 static void fresh(void) { drobulets_server_fresh(server, 0); }
 static void take(void) { drobulets_server_take(server, input, length, output, sizeof output); }
 static void run(void) { drobulets_server_run(server); }
@@ -58,11 +60,11 @@ static size_t used_by(void (*call)(void))
     return ROOM - untouched;
 }
 
-static void measure(const char *name, void (*call)(void))
+static void measure(const char *name, void (*call)(void), size_t most)
 {
-    size_t used = used_by(call);
+    size_t used = used_by(call) - used_by(nothing);
     printf("  %-12s %zu\n", name, used);
-    CHECK(used <= DROBULETS_STACK);
+    CHECK(used <= most && used <= DROBULETS_STACK);
 }
 
 int main(void)
@@ -75,28 +77,28 @@ int main(void)
     message.pieces = pieces;
     length = bytes_of(message, input, sizeof input);
     printf("stack of each call, in bytes:\n");
-    measure("fresh", fresh);
-    measure("take", take);
+    measure("fresh", fresh, MOST);
+    measure("take", take, MOST_OF_A_STEP);
     CHECK(server->records[8].committed.some == 1);
-    measure("wanted", wanted);
-    measure("run", run);
+    measure("wanted", wanted, MOST);
+    measure("run", run, MOST_OF_A_STEP);
     CHECK(server->log.count == 1);
-    measure("run_all", run_all);
-    measure("counter", counter);
-    measure("log", log_entry);
-    measure("result", result);
-    measure("recover", recover);
-    measure("again", again);
-    measure("start", start);
-    measure("due", due);
-    measure("move_on", move_on);
+    measure("run_all", run_all, MOST_OF_A_STEP);
+    measure("counter", counter, MOST);
+    measure("log", log_entry, MOST);
+    measure("result", result, MOST);
+    measure("recover", recover, MOST);
+    measure("again", again, MOST);
+    measure("start", start, MOST);
+    measure("due", due, MOST);
+    measure("move_on", move_on, MOST);
     message = message_of(DROBULETS_PRE_ACCEPT_OK, 8, 0);
     length = bytes_of(message, input, sizeof input);
-    measure("reply", reply);
+    measure("reply", reply, MOST);
     CHECK(drive->answers[0].counted == 1);
-    measure("next_ballot", next_ballot);
-    measure("decode", decode);
-    measure("encode", encode);
+    measure("next_ballot", next_ballot, MOST);
+    measure("decode", decode, MOST);
+    measure("encode", encode, MOST);
     free(server);
     free(drive);
     printf("stack: %s\n", failures ? "bad" : "ok");

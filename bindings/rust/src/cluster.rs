@@ -19,7 +19,7 @@ pub const PIECES: usize = 8;
 /// Bytes of the longest message.
 pub const LONGEST: usize = 176;
 /// Bytes of stack that are enough for every call.
-pub const STACK: usize = 131_072;
+pub const STACK: usize = 8192;
 
 /// The shard of a server.
 pub const fn shard_of(server: u32) -> u32 {

@@ -8,7 +8,9 @@ use Rattle.rules.specs.Choice.{_if_else_}
 use Rattle.rules.specs.Flags.{there}
 use Rattle.rules.specs.Cluster.{NUMBERS, KEYS, PIECES}
 use Rattle.rules.specs.Values.{noValue}
+use Rattle.counters.specs.declared.Counters.{Counters}
 use Rattle.counters.specs.Effects.{counterAt}
+use Rattle.server.specs.declared.Log.{Log}
 use Rattle.server.specs.declared.Record.{Record}
 use Rattle.server.specs.declared.Server.{Server}
 use Rattle.server.specs.Held.{recordAt, entryAt}
@@ -25,9 +27,16 @@ noReading = record { some = 0; value = pos 0; kept = 0 }
 unfoldable pub counter : Server → ℕ → Reading
 counter s key = reading (counterAt (s .counters) key .value) 0 if ltb key KEYS else noReading
 
+-- the same of the counters alone
+unfoldable pub counterIn : Counters → ℕ → Reading
+counterIn c key = reading (counterAt c key .value) 0 if ltb key KEYS else noReading
+
 -- the number at a place of the log
 unfoldable pub logEntry : Server → ℕ → LogEntry
 logEntry s i = record { some = 1; number = entryAt (s .log) i } if ltb i (s .log .count) && ltb i NUMBERS else record { some = 0; number = 0 }
+
+unfoldable pub entryIn : Log → ℕ → LogEntry
+entryIn l i = record { some = 1; number = entryAt l i } if ltb i (l .count) && ltb i NUMBERS else record { some = 0; number = 0 }
 
 -- the result at a place of a record, where its number has run
 unfoldable pub resultIn : Record → ℕ → Reading
@@ -37,3 +46,7 @@ resultIn v i =
 
 unfoldable pub result : Server → ℕ → ℕ → Reading
 result s t i = resultIn (recordAt s t) i if ltb t NUMBERS else noReading
+
+-- the same of the record that stands at the number's place
+unfoldable pub resultAt : Record → (t i : ℕ) → Reading
+resultAt v t i = resultIn v i if ltb t NUMBERS else noReading

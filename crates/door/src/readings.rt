@@ -1,20 +1,21 @@
 // What a server holds, a part at a time. Nothing is judged: the form may be broken, and a place that does not exist reads as none.
 ghost use mathlib.Core.Path.{_≡_};
-ghost use Rattle.door.specs.Readings.{counter, logEntry, resultIn, result};
+ghost use Rattle.door.specs.Readings.{counterIn, entryIn, resultIn, resultAt};
+ghost use Rattle.server_step.specs.OneStore.{placeOf};
 use crate::LogEntry;
 use crate::Reading;
+use counters::Counters;
 use rules::cluster::KEYS;
 use rules::cluster::NUMBERS;
 use rules::cluster::PIECES;
+use server::Log;
 use server::Record;
-use server::Server;
 
 // The counter of a key.
-pub fn counter(s: Server, key: u32) -> Reading
-    ensures { λ r. ⌜ r ≡ counter s key ⌝ }
+pub fn counter(c: Counters, key: u32) -> Reading
+    ensures { λ r. ⌜ r ≡ counterIn c key ⌝ }
 {
     if key < KEYS {
-        let c = s.counters;
         let k = key as usize;
         let x = c.list[k];
         return Reading {
@@ -31,10 +32,10 @@ pub fn counter(s: Server, key: u32) -> Reading
 }
 
 // The number that ran at a place of the log, the first at 0.
-pub fn log_entry(s: Server, place: u32) -> LogEntry
-    ensures { λ r. ⌜ r ≡ logEntry s place ⌝ }
+pub fn log_entry(log: Log, place: u32) -> LogEntry
+    ensures { λ r. ⌜ r ≡ entryIn log place ⌝ }
 {
-    let l = s.log;
+    let l = log;
     let there = (place < l.count) & (place < NUMBERS);
     if there {
         let i = place as usize;
@@ -68,13 +69,18 @@ fn result_in(v: Record, place: u32) -> Reading
     }
 }
 
-// The result of the number `t` at a place, in the order of its pieces on this server's shard.
-pub fn result(s: Server, t: u32, place: u32) -> Reading
-    ensures { λ r. ⌜ r ≡ result s t place ⌝ }
+// The place of the record of a number, or any where there is no such number.
+pub fn place_of(t: u32) -> usize
+    ensures { λ r. ⌜ r ≡ placeOf t ⌝ }
+{
+    server_step::record::place_of(t)
+}
+
+// The result of the number `t` at a place, in the order of its pieces on this server's shard; `v` is the record at its place.
+pub fn result(v: Record, t: u32, place: u32) -> Reading
+    ensures { λ r. ⌜ r ≡ resultAt v t place ⌝ }
 {
     if t < NUMBERS {
-        let n = t as usize;
-        let v = s.records[n];
         return result_in(v, place);
     }
     Reading {

@@ -1,39 +1,18 @@
-// What an outcome tells the host, and the state that it leaves to be stored.
+// What an outcome tells the host, and what it leaves to be stored.
 ghost use mathlib.Core.Path.{_≡_};
-ghost use Rattle.door.specs.Told.{counted};
 use crate::Answer;
 use crate::Counted;
 use crate::Taken;
-use server::Begun;
-use server::Ran;
 use server::Record;
-use server::Server;
+use server_lent::planning::Planned;
 
-pub fn begun_refusal(o: Begun) -> u32
-    ensures { λ r. ⌜ r ≡ o .refusal ⌝ }
-{
-    o.refusal
-}
-
-pub fn begun_server(o: Begun) -> Server
-    ensures { λ r. ⌜ r ≡ o .server ⌝ }
-{
-    o.server
-}
-
-pub fn ran_counted(o: Ran) -> Counted
-    ensures { λ r. ⌜ r ≡ counted o ⌝ }
+pub fn planned_counted(p: Planned) -> Counted
+    ensures { λ r. ⌜ r ≡ record { refusal = p .refusal; many = p .many } ⌝ }
 {
     Counted {
-        refusal: o.refusal,
-        many: o.many,
+        refusal: p.refusal,
+        many: p.many,
     }
-}
-
-pub fn ran_server(o: Ran) -> Server
-    ensures { λ r. ⌜ r ≡ o .server ⌝ }
-{
-    o.server
 }
 
 pub fn taken_answer(o: Taken) -> Answer

@@ -3,25 +3,31 @@ use mathlib.Core.Path.{sym, _∙_}
 use mathlib.Core.List.{List}
 use Prim.Native.Nat.{ℕ}
 use Rattle.outcomes.specs.Once.{Answers, Leaves}
-use Rattle.door.proofs.exchange.take.Reads as door·exchange·take-contract
+use Rattle.door.proofs.exchange.message_of.Reads as door·exchange·message-of-contract
+use Rattle.door.proofs.exchange.judged.Reads as door·exchange·judged-contract
+use Rattle.door.proofs.exchange.answered.Reads as door·exchange·answered-contract
 use Rattle.door.proofs.exchange.weigh_reply.Reads as door·exchange·weigh-reply-contract
 use Rattle.door.proofs.exchange.post.Reads as door·exchange·post-contract
 use Rattle.door.proofs.readings.counter.Reads as door·readings·counter-contract
 use Rattle.door.proofs.readings.log_entry.Reads as door·readings·log-entry-contract
+use Rattle.door.proofs.readings.place_of.Reads as door·readings·place-of-contract
 use Rattle.door.proofs.readings.result.Reads as door·readings·result-contract
-use Rattle.door.proofs.told.begun_refusal.Reads as door·told·begun-refusal-contract
-use Rattle.door.proofs.told.begun_server.Reads as door·told·begun-server-contract
-use Rattle.door.proofs.told.ran_counted.Reads as door·told·ran-counted-contract
-use Rattle.door.proofs.told.ran_server.Reads as door·told·ran-server-contract
+use Rattle.door.proofs.told.planned_counted.Reads as door·told·planned-counted-contract
 use Rattle.door.proofs.told.taken_answer.Reads as door·told·taken-answer-contract
 use Rattle.door.proofs.told.taken_place.Reads as door·told·taken-place-contract
 use Rattle.door.proofs.told.taken_record.Reads as door·told·taken-record-contract
 
-pub door·exchange·take : Answers door·exchange·take-contract.Post
-door·exchange·take κ a x y e e′ p q = p .0 ∙ sym (q .0)
+pub door·exchange·message-of : Answers door·exchange·message-of-contract.Post
+door·exchange·message-of κ a x y e e′ p q = p ∙ sym q
 
-pub door·exchange·take·leaves-output : Leaves {B = List ℕ} (λ κ e. e .1 .1 .0 .now) door·exchange·take-contract.Post
-door·exchange·take·leaves-output κ a x y e e′ p q = p .1 ∙ sym (q .1)
+pub door·exchange·judged : Answers door·exchange·judged-contract.Post
+door·exchange·judged κ a x y e e′ p q = p ∙ sym q
+
+pub door·exchange·answered : Answers door·exchange·answered-contract.Post
+door·exchange·answered κ a x y e e′ p q = p .0 ∙ sym (q .0)
+
+pub door·exchange·answered·leaves-output : Leaves {B = List ℕ} (λ κ e. e .1 .0 .now) door·exchange·answered-contract.Post
+door·exchange·answered·leaves-output κ a x y e e′ p q = p .1 ∙ sym (q .1)
 
 pub door·exchange·weigh-reply : Answers door·exchange·weigh-reply-contract.Post
 door·exchange·weigh-reply κ a x y e e′ p q = p ∙ sym q
@@ -38,20 +44,14 @@ door·readings·counter κ a x y e e′ p q = p ∙ sym q
 pub door·readings·log-entry : Answers door·readings·log-entry-contract.Post
 door·readings·log-entry κ a x y e e′ p q = p ∙ sym q
 
+pub door·readings·place-of : Answers door·readings·place-of-contract.Post
+door·readings·place-of κ a x y e e′ p q = p ∙ sym q
+
 pub door·readings·result : Answers door·readings·result-contract.Post
 door·readings·result κ a x y e e′ p q = p ∙ sym q
 
-pub door·told·begun-refusal : Answers door·told·begun-refusal-contract.Post
-door·told·begun-refusal κ a x y e e′ p q = p ∙ sym q
-
-pub door·told·begun-server : Answers door·told·begun-server-contract.Post
-door·told·begun-server κ a x y e e′ p q = p ∙ sym q
-
-pub door·told·ran-counted : Answers door·told·ran-counted-contract.Post
-door·told·ran-counted κ a x y e e′ p q = p ∙ sym q
-
-pub door·told·ran-server : Answers door·told·ran-server-contract.Post
-door·told·ran-server κ a x y e e′ p q = p ∙ sym q
+pub door·told·planned-counted : Answers door·told·planned-counted-contract.Post
+door·told·planned-counted κ a x y e e′ p q = p ∙ sym q
 
 pub door·told·taken-answer : Answers door·told·taken-answer-contract.Post
 door·told·taken-answer κ a x y e e′ p q = p ∙ sym q

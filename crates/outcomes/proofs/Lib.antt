@@ -15,6 +15,7 @@ pub mod Parts
 pub mod Rules
 pub mod ServerChange
 pub mod ServerForm
+pub mod ServerLent
 pub mod ServerRun
 pub mod ServerStep
 pub mod Station

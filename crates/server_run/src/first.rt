@@ -16,7 +16,7 @@ use server::Record;
 use server::Server;
 
 // The record of a number of which nothing is held.
-fn fresh_record() -> Record
+pub fn fresh_record() -> Record
     ensures { λ r. ⌜ r ≡ freshRecord ⌝ }
 {
     let pieces = no_pieces();
@@ -46,7 +46,7 @@ fn fresh_record() -> Record
 }
 
 // All counters at 0.
-fn no_counters() -> Counters
+pub fn no_counters() -> Counters
     ensures { λ r. ⌜ r ≡ noCounters ⌝ }
 {
     let zero = Counter { value: 0 };

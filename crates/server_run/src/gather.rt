@@ -25,7 +25,7 @@ pub fn named(c: MaybeSet) -> Set
 }
 
 // What is in `v` and not in `w`, shard by shard.
-fn set_without(v: Set, w: u64) -> Set
+pub fn set_without(v: Set, w: u64) -> Set
     ensures { λ r. ⌜ r ≡ setWithout v w ⌝ }
 {
     Set {

@@ -9,7 +9,7 @@ use server::Server;
 use server::Wants;
 
 pub mod first; // first.rt: what is there at first
-mod gather; // gather.rt: what the records say, in one pass
+pub mod gather; // gather.rt: what the records say, in one pass
 pub mod running; // running.rt: runs one after the other
 
 // A fresh server in the place of the lent one; 1 where there is no server `id`.

@@ -13,13 +13,13 @@ use server_form::log::read_log;
 use server_form::number::number_formed;
 
 // How many runs there may be: none where the form is broken.
-fn allowed(form: bool, limit: u32) -> u32
+pub fn allowed(form: bool, limit: u32) -> u32
     ensures { λ r. ⌜ r ≡ allowed form limit ⌝ }
 {
     if form { limit } else { 0 }
 }
 
-fn refusal_of(form: bool) -> u32
+pub fn refusal_of(form: bool) -> u32
     ensures { λ r. ⌜ r ≡ refusalOf form ⌝ }
 {
     if form { 0 } else { 13 }

@@ -13,8 +13,8 @@ use server_form::log::read_log;
 use server_form::number::number_formed;
 use wire::Message;
 
-mod refusals; // refusals.rt: the tests, and which comes first
-mod record; // record.rt: the record of T, and who came earlier
+pub mod refusals; // refusals.rt: the tests, and which comes first
+pub mod record; // record.rt: the record of T, and who came earlier
 
 // What a step comes to: the refusal or 0, the place of the one record that it stores, that record as it was lent and as it becomes, and the reply.
 pub struct Considered {

@@ -18,10 +18,7 @@ use server::Wants;
 pub extern "C" fn drobulets_server_fresh(s: &mut Server, id: u32) -> u32
     ensures { λ r. ⌜ (r ≡ fresh (now (s .entry)) id .refusal) × (now (s .exit) ≡ fresh (now (s .entry)) id .server) ⌝ }
 {
-    let o = server_run::fresh(*s, id);
-    let answer = door::told::begun_refusal(o);
-    *s = door::told::begun_server(o);
-    answer
+    server_lent::first::fresh(s, id)
 }
 
 // A message, and its reply at the front of the output. Bytes that do not decode are refused first (10, 12, 11), then the step refuses in its own order, then encoding (12, 14).
@@ -31,7 +28,9 @@ pub extern "C" fn drobulets_server_take(s: &mut Server, input: &[u8], output: &m
         × (now (s .exit) ≡ take (now (s .entry)) (now (input .entry)) (now (output .entry)) .server)
         × (now (output .exit) ≡ take (now (s .entry)) (now (input .entry)) (now (output .entry)) .output) ⌝ }
 {
-    let o = door::exchange::take(*s, input, output);
+    let d = codec::decode(input);
+    let h = door::exchange::heard(&*s, d);
+    let o = door::exchange::answered(h, output);
     let answer = door::told::taken_answer(o);
     let i = door::told::taken_place(o);
     let v = door::told::taken_record(o);
@@ -39,14 +38,21 @@ pub extern "C" fn drobulets_server_take(s: &mut Server, input: &[u8], output: &m
     answer
 }
 
-// At most `limit` runs. Both exported functions pass their server on to this one, so the work has one caller, and the compiler lays it in here with no copy of its own.
+// At most `limit` runs. What runs, and in which order, is known before any number runs: so the server is changed only where a number runs, and not at all where the form is broken.
 pub fn runs(s: &mut Server, limit: u32) -> Counted
     ensures { λ r. ⌜ (r ≡ counted (ranUpTo limit (now (s .entry)))) × (now (s .exit) ≡ ranUpTo limit (now (s .entry)) .server) ⌝ }
 {
-    let o = server_run::running::repeated(*s, limit);
-    let answer = door::told::ran_counted(o);
-    *s = door::told::ran_server(o);
-    answer
+    let f0 = server_lent::form::head(&*s);
+    let f = server_lent::form::form_in(&*s, f0, 64);
+    let w = server_lent::form::form_word(f);
+    let d = server_lent::planning::waiting_in(&*s, w, 64);
+    let log = s.log;
+    let p = server_lent::planning::plan_by(f, d, log, limit);
+    let plan = server_lent::planning::planned_plan(p);
+    let end = server_lent::planning::planned_end(p);
+    let many = server_lent::planning::planned_many(p);
+    let done = server_lent::running::run_planned(&mut *s, plan, end, many);
+    door::told::planned_counted(p)
 }
 
 // One run.
@@ -70,7 +76,7 @@ pub extern "C" fn drobulets_server_run_all(s: &mut Server) -> Counted
 pub extern "C" fn drobulets_server_wanted(s: &Server) -> Wants
     ensures { λ r. ⌜ r ≡ wanted (now (s .entry)) ⌝ }
 {
-    server_run::wanted(*s)
+    server_lent::wanting::wanted(s)
 }
 
 // The counter of a key. Readers judge nothing.
@@ -78,7 +84,8 @@ pub extern "C" fn drobulets_server_wanted(s: &Server) -> Wants
 pub extern "C" fn drobulets_server_counter(s: &Server, key: u32) -> Reading
     ensures { λ r. ⌜ r ≡ counter (now (s .entry)) key ⌝ }
 {
-    door::readings::counter(*s, key)
+    let c = s.counters;
+    door::readings::counter(c, key)
 }
 
 // The number at a place of the log.
@@ -86,7 +93,8 @@ pub extern "C" fn drobulets_server_counter(s: &Server, key: u32) -> Reading
 pub extern "C" fn drobulets_server_log(s: &Server, place: u32) -> LogEntry
     ensures { λ r. ⌜ r ≡ logEntry (now (s .entry)) place ⌝ }
 {
-    door::readings::log_entry(*s, place)
+    let l = s.log;
+    door::readings::log_entry(l, place)
 }
 
 // A result of the number `t`, in the order of its pieces on this server's shard.
@@ -94,5 +102,7 @@ pub extern "C" fn drobulets_server_log(s: &Server, place: u32) -> LogEntry
 pub extern "C" fn drobulets_server_result(s: &Server, t: u32, place: u32) -> Reading
     ensures { λ r. ⌜ r ≡ result (now (s .entry)) t place ⌝ }
 {
-    door::readings::result(*s, t, place)
+    let i = door::readings::place_of(t);
+    let v = s.records[i];
+    door::readings::result(v, t, place)
 }

@@ -3,7 +3,7 @@ use mathlib.Core.Path.{ap}
 use lib.IntN.{ℤ}
 use mir.Syntax.{w32}
 use mir.Facts.{toZ-ofZ}
-use Rattle.door.specs.Readings.{reading, counter}
+use Rattle.door.specs.Readings.{reading, counterIn}
 use borrow.Author.Tests.{lt-ltb, le-ltb}
 use borrow.Author.Needs.{needs}
 use Rattle.door.proofs.readings.counter.Statement.{statement}
@@ -16,11 +16,11 @@ element-copy-out-x : tie.Need-element-copy-out-x
 element-copy-out-x c = search needs
 
 returns : tie.Need-returns
-unfolding counter
-returns c = rw (lt-ltb _ _ (c .before .before .before .if1 .taken)) (ap (λ (z : ℤ). reading z 0) (toZ-ofZ {w = w32} (record { sfits = c .struct-told .given .0 .1 })))
+unfolding counterIn
+returns c = rw (lt-ltb _ _ (c .before .before .if1 .taken)) (ap (λ (z : ℤ). reading z 0) (toZ-ofZ {w = w32} (record { sfits = c .struct-told .given .0 .1 })))
 
 returns-2 : tie.Need-returns-2
-unfolding counter
+unfolding counterIn
 returns-2 c = rw (le-ltb _ _ (c .if1 .left))
 
 pub counter-spec : {M : Type 1} → statement M
