@@ -1,4 +1,4 @@
--- A second history that happens: two numbers on one key of shard 2, one of them on shard 3 too, where the first counters differ. A drive moves on in phase 1 and is gone; a recovery at a floor of 20 is gone too; another, at a floor of 9, is behind, tries again, is told Done and commits. All servers run in one order, a sum that is too large is kept, and a Fetch is answered with Results.
+-- A second history that happens: two numbers on one key of shard 2, one of them on shard 3 too, where the first counters differ. One takes the fast path, and its drive is gone; a recovery at a floor of 20 is gone too; another, at a floor of 9, is behind, tries again, is told Done and commits. The other number moves on in phase 1. All servers run in one order, a sum that is too large is kept, and a Fetch is answered with Results.
 -- Assumes nothing.
 use mathlib.Core.Path.{_≡_, refl}
 use mathlib.Core.Option.{Option, none, some}
@@ -11,8 +11,7 @@ use Rattle.rules.specs.declared.Pieces.{Pieces}
 use Rattle.rules.specs.declared.Value.{Value}
 use Rattle.rules.specs.Choice.{_if_else_}
 use Rattle.rules.specs.Pieces.{noPiece, put, add}
-use Rattle.rules.specs.Sets.{noSet}
-use Rattle.rules.specs.Maybe.{someWord, someVote}
+use Rattle.rules.specs.Maybe.{someWord, noVote}
 use Rattle.rules.specs.Values.{noValue}
 use Rattle.wire.specs.declared.Message.{Message}
 use Rattle.wire.specs.Messages.{prepareOK, results}
@@ -37,27 +36,27 @@ world : World
 unfolding tens
 world = record { pieces = λ t. nine if eqb t 9 else twelve; counters = tens; sixteen = λ k. refl }
 
--- coordinator 1 starts 9, hears two servers of each shard and moves on in phase 1; two of each accept, and it is gone when server 9 alone has its Commit
+-- coordinator 1 starts 9, hears all servers of both shards with equal words and takes the fast path; it is gone when server 9 alone has its Commit
 exchange : List Event
 exchange =
-    starts 0 1 9 ∷ sends 0 ∷ takes 6 0 ∷ takes 7 0 ∷ takes 9 0 ∷ takes 10 0 ∷ hears 0 1 ∷ hears 0 2 ∷ hears 0 3 ∷ hears 0 4 ∷ movesOn 0
-    ∷ sends 0 ∷ takes 6 5 ∷ takes 8 5 ∷ takes 9 5 ∷ takes 10 5 ∷ hears 0 6 ∷ hears 0 7 ∷ hears 0 8 ∷ hears 0 9 ∷ sends 0 ∷ takes 9 10 ∷ vanishes 0 ∷ []
+    starts 0 1 9 ∷ sends 0 ∷ takes 6 0 ∷ takes 7 0 ∷ takes 8 0 ∷ takes 9 0 ∷ takes 10 0 ∷ takes 11 0
+    ∷ hears 0 1 ∷ hears 0 2 ∷ hears 0 3 ∷ hears 0 4 ∷ hears 0 5 ∷ hears 0 6 ∷ sends 0 ∷ takes 9 7 ∷ vanishes 0 ∷ []
 
 -- coordinator 5 recovers it above 20, so at ballot 21, and is gone before server 6 promises that
 gone : List Event
-gone = recovers 2 5 9 20 ∷ sends 2 ∷ vanishes 2 ∷ takes 6 12 ∷ []
+gone = recovers 2 5 9 20 ∷ sends 2 ∷ vanishes 2 ∷ takes 6 9 ∷ []
 
 -- coordinator 2 recovers it above 9, so at ballot 10, and is behind; it tries again at ballot 26, is told Done by server 9, and commits that at the others
 recovery : List Event
 recovery =
-    recovers 1 2 9 9 ∷ sends 1 ∷ takes 6 14 ∷ hears 1 15 ∷ triesAgain 1 ∷ sends 1 ∷ takes 9 16 ∷ hears 1 17
-    ∷ sends 1 ∷ takes 6 18 ∷ takes 8 18 ∷ takes 10 18 ∷ []
+    recovers 1 2 9 9 ∷ sends 1 ∷ takes 6 11 ∷ hears 1 12 ∷ triesAgain 1 ∷ sends 1 ∷ takes 9 13 ∷ hears 1 14
+    ∷ sends 1 ∷ takes 6 15 ∷ takes 8 15 ∷ takes 10 15 ∷ []
 
--- coordinator 4 starts 12: server 6 saw 9 before it and 8 did not; it moves on in phase 1 and commits
+-- coordinator 4 starts 12, hears two servers, moves on in phase 1 and commits
 conflicting : List Event
 conflicting =
-    starts 3 4 12 ∷ sends 3 ∷ takes 6 22 ∷ takes 8 22 ∷ hears 3 23 ∷ hears 3 24 ∷ movesOn 3
-    ∷ sends 3 ∷ takes 6 25 ∷ takes 8 25 ∷ hears 3 26 ∷ hears 3 27 ∷ sends 3 ∷ takes 6 28 ∷ takes 8 28 ∷ []
+    starts 3 4 12 ∷ sends 3 ∷ takes 6 19 ∷ takes 8 19 ∷ hears 3 20 ∷ hears 3 21 ∷ movesOn 3
+    ∷ sends 3 ∷ takes 6 22 ∷ takes 8 22 ∷ hears 3 23 ∷ hears 3 24 ∷ sends 3 ∷ takes 6 25 ∷ takes 8 25 ∷ []
 
 -- two servers of each shard run, and server 6 tells the results of 12
 running : List Event
@@ -86,8 +85,8 @@ endOf c = record {
   at8 = shownAt c 8 12;
   at9 = shownAt c 9 9;
   at10 = shownAt c 10 9;
-  told = sentAs c 31;
-  unheard = sentAs c 13;
+  told = sentAs c 28;
+  unheard = sentAs c 10;
   station0 = c .stations 0;
   station2 = c .stations 2;
   order = c .order;
@@ -114,7 +113,7 @@ end = record {
   at9 = third;
   at10 = third;
   told = results 12 6 (record { list = sums ++ replicate 6 noValue; count = 2 });
-  unheard = prepareOK 9 6 21 (someWord 0) (someVote 0 noSet);
+  unheard = prepareOK 9 6 21 (someWord 0) noVote;
   station0 = none;
   station2 = none;
   order = 9 ∷ 12 ∷ [];
