@@ -1,4 +1,4 @@
-// The door of the library, by value: what a host is told of the states and bytes that it lends. `station` lends them.
+// The door of the library: what a host is told of the states and bytes that it lends. `station` lends them.
 use server::Record;
 
 pub mod exchange; // exchange.rt: bytes in, bytes out
