@@ -1,3 +1,2 @@
-pub mod InOrder
 pub mod Counting
 pub mod Outcomes

@@ -18,7 +18,7 @@ use Rattle.drive_decide.specs.Turns.{to, turnOf}
 use Rattle.drive_decide.proofs.Turning.{turned-decide}
 use Rattle.drive_step.specs.declared.Weighed.{Weighed}
 use Rattle.drive_step.specs.Weighing.{untaken, keeping, turningTo, weighedAnswer, weighed, turned, kept, stored}
-use Rattle.drive_step.proofs.InOrder.{ok-place}
+use Rattle.drive_refusals.proofs.InOrder.{ok-place}
 
 -- nothing there is 0
 pub not-there : (n : ℕ) → there n ≡ false → n ≡ 0

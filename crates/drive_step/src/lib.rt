@@ -3,8 +3,6 @@ ghost use mathlib.Core.Path.{_≡_};
 ghost use Prim.Native.Nat.{max};
 ghost use Rattle.drive.specs.Hear.{answerOf, hear};
 ghost use Rattle.drive_step.specs.Weighing.{weighed};
-use crate::refusals::first_of;
-use crate::refusals::judge;
 use crate::weighing::keeping;
 use crate::weighing::turning;
 use crate::weighing::untaken;
@@ -23,6 +21,8 @@ use drive_form::counts::decided;
 use drive_form::further;
 use drive_form::head_formed;
 use drive_form::set_formed;
+use drive_refusals::first_of;
+use drive_refusals::judge;
 use messages::codes::BEHIND;
 use messages::codes::DONE;
 use messages::codes::PRE_ACCEPT_OK;
@@ -35,7 +35,6 @@ use rules::Set;
 use rules::transaction::touched;
 use wire::Message;
 
-pub mod refusals; // refusals.rt: which refusal a reply gets
 pub mod weighing; // weighing.rt: what a reply comes to, made and taken apart
 
 // What a reply comes to. On a refusal the rest is 0. If it turns the drive to a new phase, `t` to `seen` are the drive after it, which has no answers. Else one answer, in its place, and the promise seen are all that may have changed, and the rest is 0.

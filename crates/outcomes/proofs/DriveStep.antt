@@ -4,8 +4,6 @@ use Rattle.outcomes.specs.Once.{Answers}
 use Rattle.drive_step.proofs.higher.Reads as drive-step·higher-contract
 use Rattle.drive_step.proofs.weigh.Reads as drive-step·weigh-contract
 use Rattle.drive_step.proofs.hear.Reads as drive-step·hear-contract
-use Rattle.drive_step.proofs.refusals.judge.Reads as drive-step·refusals·judge-contract
-use Rattle.drive_step.proofs.refusals.first_of.Reads as drive-step·refusals·first-of-contract
 use Rattle.drive_step.proofs.weighing.untaken.Reads as drive-step·weighing·untaken-contract
 use Rattle.drive_step.proofs.weighing.keeping.Reads as drive-step·weighing·keeping-contract
 use Rattle.drive_step.proofs.weighing.turning.Reads as drive-step·weighing·turning-contract
@@ -25,12 +23,6 @@ drive-step·weigh κ a x y e e′ p q = p ∙ sym q
 
 pub drive-step·hear : Answers drive-step·hear-contract.Post
 drive-step·hear κ a x y e e′ p q = p ∙ sym q
-
-pub drive-step·refusals·judge : Answers drive-step·refusals·judge-contract.Post
-drive-step·refusals·judge κ a x y e e′ p q = p ∙ sym q
-
-pub drive-step·refusals·first-of : Answers drive-step·refusals·first-of-contract.Post
-drive-step·refusals·first-of κ a x y e e′ p q = p ∙ sym q
 
 pub drive-step·weighing·untaken : Answers drive-step·weighing·untaken-contract.Post
 drive-step·weighing·untaken κ a x y e e′ p q = p ∙ sym q

@@ -5,6 +5,7 @@ pub mod DriveDecide
 pub mod DriveForm
 pub mod DriveHost
 pub mod DriveLent
+pub mod DriveRefusals
 pub mod DriveStep
 pub mod Faults
 pub mod Graph

@@ -13,7 +13,7 @@ use Rattle.drive_form.proofs.Parts.{walked-first, walked-further}
 use Rattle.drive_decide.specs.Turns.{wordsOf, turnOf}
 use Rattle.drive_decide.proofs.Wording.{words-four}
 use Rattle.drive_decide.proofs.Choosing.{turn-early, turn-late}
-use Rattle.drive_step.proofs.InOrder.{refusal-is, taken-touched, ok-place}
+use Rattle.drive_refusals.proofs.InOrder.{refusal-is, taken-touched, ok-place}
 use Rattle.drive_step.proofs.Counting.{answer-counts, decided-after, answered-after}
 use Rattle.drive_step.proofs.Outcomes.{not-there, refused-weighs, done-weighs, behind-weighs, waiting-weighs, deciding-weighs}
 use Rattle.drive_step.proofs.weigh.Statement.{statement}

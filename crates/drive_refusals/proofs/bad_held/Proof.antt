@@ -1,9 +1,9 @@
--- `drive_step::refusals::bad_held` meets its contract: a set is judged where one is held. Assumes nothing.
+-- `drive_refusals::bad_held` meets its contract: a set is judged where one is held. Assumes nothing.
 use mathlib.Core.Bool.{or-false}
-use Rattle.drive_step.specs.Refusals.{badHeld}
+use Rattle.drive_refusals.specs.Refusals.{badHeld}
 use borrow.Author.Needs.{needs}
-use Rattle.drive_step.proofs.refusals.bad_held.Statement.{statement}
-use Rattle.drive_step.proofs.refusals.bad_held.Tie as tie
+use Rattle.drive_refusals.proofs.bad_held.Statement.{statement}
+use Rattle.drive_refusals.proofs.bad_held.Tie as tie
 
 has-requires : tie.Need-has-requires
 has-requires c κs = search needs

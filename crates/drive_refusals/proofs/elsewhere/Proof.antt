@@ -1,8 +1,8 @@
--- `drive_step::refusals::elsewhere` meets its contract: the callee says its last test. Assumes nothing.
-use Rattle.drive_step.specs.Refusals.{elsewhere}
+-- `drive_refusals::elsewhere` meets its contract: the callee says its last test. Assumes nothing.
+use Rattle.drive_refusals.specs.Refusals.{elsewhere}
 use borrow.Author.Needs.{needs}
-use Rattle.drive_step.proofs.refusals.elsewhere.Statement.{statement}
-use Rattle.drive_step.proofs.refusals.elsewhere.Tie as tie
+use Rattle.drive_refusals.proofs.elsewhere.Statement.{statement}
+use Rattle.drive_refusals.proofs.elsewhere.Tie as tie
 
 addressed-requires : tie.Need-addressed-requires
 addressed-requires c κs = search needs

@@ -1,8 +1,8 @@
--- `drive_step::refusals::judge` meets its contract: by its code. Assumes nothing.
-use Rattle.drive_step.specs.Refusals.{judgedBy}
+-- `drive_refusals::judge` meets its contract: by its code. Assumes nothing.
+use Rattle.drive_refusals.specs.Refusals.{judgedBy}
 use borrow.Author.Needs.{needs}
-use Rattle.drive_step.proofs.refusals.judge.Statement.{statement}
-use Rattle.drive_step.proofs.refusals.judge.Tie as tie
+use Rattle.drive_refusals.proofs.judge.Statement.{statement}
+use Rattle.drive_refusals.proofs.judge.Tie as tie
 
 bad-head-requires : tie.Need-bad-head-requires
 bad-head-requires c κs = search needs

@@ -1,7 +1,7 @@
--- `drive_step::refusals::first` meets its contract: by its tests. Assumes nothing.
-use Rattle.drive_step.specs.Refusals.{firstOfThree}
-use Rattle.drive_step.proofs.refusals.first.Statement.{statement}
-use Rattle.drive_step.proofs.refusals.first.Tie as tie
+-- `drive_refusals::first` meets its contract: by its tests. Assumes nothing.
+use Rattle.drive_refusals.specs.Refusals.{firstOfThree}
+use Rattle.drive_refusals.proofs.first.Statement.{statement}
+use Rattle.drive_refusals.proofs.first.Tie as tie
 
 returns : tie.Need-returns
 unfolding firstOfThree

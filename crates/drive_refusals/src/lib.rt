@@ -1,6 +1,6 @@
 // Which refusal a reply gets: the first test that fires gives its number, 0 is none. Each code has the tests of the fields that it has.
 ghost use mathlib.Core.Path.{_≡_};
-ghost use Rattle.drive_step.specs.Refusals.{badHead, elsewhere, badHeld, firstOfThree, doneBy, judgedBy, firstOf};
+ghost use Rattle.drive_refusals.specs.Refusals.{badHead, elsewhere, badHeld, firstOfThree, doneBy, judgedBy, firstOf};
 use drive_form::answers::addressed;
 use messages::codes::ACCEPT_OK;
 use messages::codes::BEHIND;

@@ -29,7 +29,7 @@ use Rattle.drive.proofs.FormParts.{formed-parts}
 use Rattle.drive_form.specs.declared.Walked.{Walked}
 use Rattle.drive_form.specs.Parts.{walkedTo, formedBy}
 use Rattle.drive_form.proofs.Parts.{formed-by}
-use Rattle.drive_step.specs.Refusals.{badHead, elsewhere, badHeld, firstOfThree, doneBy, judgedBy, firstOf}
+use Rattle.drive_refusals.specs.Refusals.{badHead, elsewhere, badHeld, firstOfThree, doneBy, judgedBy, firstOf}
 
 -- ---- the codes that a drive takes
 

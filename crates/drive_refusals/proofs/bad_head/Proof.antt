@@ -1,8 +1,8 @@
--- `drive_step::refusals::bad_head` meets its contract: the callees say its tests. Assumes nothing.
-use Rattle.drive_step.specs.Refusals.{badHead}
+-- `drive_refusals::bad_head` meets its contract: the callees say its tests. Assumes nothing.
+use Rattle.drive_refusals.specs.Refusals.{badHead}
 use borrow.Author.Needs.{needs}
-use Rattle.drive_step.proofs.refusals.bad_head.Statement.{statement}
-use Rattle.drive_step.proofs.refusals.bad_head.Tie as tie
+use Rattle.drive_refusals.proofs.bad_head.Statement.{statement}
+use Rattle.drive_refusals.proofs.bad_head.Tie as tie
 
 bad-number-requires : tie.Need-bad-number-requires
 bad-number-requires c κs = search needs

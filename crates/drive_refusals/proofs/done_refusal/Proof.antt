@@ -1,10 +1,10 @@
--- `drive_step::refusals::done_refusal` meets its contract: the callees say its tests, and the first that fires gives its number. Assumes nothing.
+-- `drive_refusals::done_refusal` meets its contract: the callees say its tests, and the first that fires gives its number. Assumes nothing.
 use mathlib.Core.Path.{sym, ap, _∙_}
 use mathlib.Core.Bool.{not}
-use Rattle.drive_step.specs.Refusals.{doneBy}
+use Rattle.drive_refusals.specs.Refusals.{doneBy}
 use borrow.Author.Needs.{needs}
-use Rattle.drive_step.proofs.refusals.done_refusal.Statement.{statement}
-use Rattle.drive_step.proofs.refusals.done_refusal.Tie as tie
+use Rattle.drive_refusals.proofs.done_refusal.Statement.{statement}
+use Rattle.drive_refusals.proofs.done_refusal.Tie as tie
 
 too-many-requires : tie.Need-too-many-requires
 too-many-requires c κs = search needs
