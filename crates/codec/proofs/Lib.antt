@@ -1,5 +1,2 @@
 pub mod ReadWhole
-pub mod ByKind
 pub mod ReadExact
-pub mod WriteWhole
-pub mod EncodeWhole

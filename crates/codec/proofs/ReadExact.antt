@@ -31,10 +31,10 @@ use Rattle.wire.specs.Codes.{shapeOf}
 use Rattle.wire.specs.Messages.{message}
 use Rattle.wire.specs.Parts.{piece, pieces, set4, prepared, values}
 use Rattle.wire.specs.Bytes.{code, atFront, ended, decodedAs, decode}
-use Rattle.codec.specs.Sections.{Front, front, frontLength, Rest, rest, noRest, joined}
-use Rattle.codec.specs.ByKind.{bare, asked, answered, bareShape, askedShape, answeredShape, kindShape}
+use Rattle.encoding.specs.Sections.{Front, front, frontLength, Rest, rest, noRest, joined}
+use Rattle.encoding.specs.ByKind.{bare, asked, answered, bareShape, askedShape, answeredShape, kindShape}
 use Rattle.codec.specs.Exact.{wordAt, isBare, ExactAsked, ExactAnswered}
-use Rattle.codec.proofs.ByKind.{kind-shape}
+use Rattle.encoding.proofs.ByKind.{kind-shape}
 use Rattle.codec.proofs.ReadWhole.{header-read, front-read, rest-read, message-read, as-good}
 
 -- ---- the shape of each kind

@@ -28,7 +28,7 @@ use Rattle.wire.specs.Codes.{shapeOf}
 use Rattle.wire.specs.Messages.{blank}
 use Rattle.wire.specs.Parts.{pieces, set4, prepared, values}
 use Rattle.wire.specs.Bytes.{Body, body, known, code, bytes, withBody, atFront, ended, decodedAs, decode}
-use Rattle.codec.specs.Sections.{Front, front, Rest, rest, noRest, long, joined}
+use Rattle.encoding.specs.Sections.{Front, front, Rest, rest, noRest, long, joined}
 
 -- ---- the header: a number whose shape is known
 

@@ -7,8 +7,8 @@ use lib.Dec.{eqb}
 use lib.ListN.{length, take, drop}
 use Rattle.xdr.specs.Word.{value}
 use Rattle.xdr.proofs.Windows.{cost}
-use Rattle.codec.specs.Sections.{frontLength}
-use Rattle.codec.specs.ByKind.{bare, asked, answered, askedShape, answeredShape}
+use Rattle.encoding.specs.Sections.{frontLength}
+use Rattle.encoding.specs.ByKind.{bare, asked, answered, askedShape, answeredShape}
 
 abbrev pub wordAt : List ℕ → ℕ → ℕ
 wordAt s at = value (take 4 (drop at s))

@@ -1,4 +1,1 @@
-pub mod Sections
-pub mod ByKind
 pub mod Exact
-pub mod Answers

@@ -3,23 +3,15 @@ ghost use mathlib.Core.Path.{_≡_};
 ghost use mathlib.Core.Bool.{true};
 ghost use Rattle.wire.specs.Bytes.{decode};
 ghost use Rattle.wire.specs.Encoding.{encode};
-ghost use Rattle.codec.specs.Answers.{answer};
+ghost use Rattle.encoding.specs.Answers.{answer};
 ghost use Rattle.codec.specs.Exact.{isBare};
+use encoding::Encoded;
 use rules::MaybeWord;
 use wire::Decoded;
 use wire::Message;
 
 mod exact; // exact.rt: a message that is as long as its code says, read
 mod decoding; // decoding.rt: a message read by its sections, and the first fault
-mod encoding; // encoding.rt: a message written by its sections
-mod shapes; // shapes.rt: the kinds of messages
-
-// What encoding answers: the refusal or 0, and how many bytes the message takes, 0 on a refusal.
-#[repr(C)]
-pub struct Encoded {
-    pub refusal: u32,
-    pub length: u32,
-}
 
 // The message that the bytes say, or the number of the first fault and the blank message.
 pub fn decode(bytes: &[u8]) -> Decoded
@@ -84,10 +76,10 @@ pub fn encode(message: Message, out: &mut [u8]) -> Encoded
     ensures { λ r. ⌜ (r ≡ answer (encode message (now (out .entry)))) × (now (out .exit) ≡ encode message (now (out .entry)) .buffer) ⌝ }
 {
     let code = message.code;
-    if shapes::bare(code) {
+    if encoding::shapes::bare(code) {
         return encoding::bare(out, code, message.t);
     }
-    if shapes::asked(code) {
+    if encoding::shapes::asked(code) {
         let list = message.pieces.list;
         let set = message.set;
         return encoding::asked(
@@ -100,7 +92,7 @@ pub fn encode(message: Message, out: &mut [u8]) -> Encoded
             set,
         );
     }
-    if shapes::answered(code) {
+    if encoding::shapes::answered(code) {
         let arrival = message.arrival;
         let accepted = message.accepted;
         let values = message.values;
@@ -125,10 +117,10 @@ pub fn encode_lent(message: Message, out: &mut [u8]) -> Encoded
     ensures { λ r. ⌜ (r ≡ answer (encode message (now (out .entry)))) × (now (out .exit) ≡ encode message (now (out .entry)) .buffer) ⌝ }
 {
     let code = message.code;
-    if shapes::bare(code) {
+    if encoding::shapes::bare(code) {
         return encoding::bare(out, code, message.t);
     }
-    if shapes::asked(code) {
+    if encoding::shapes::asked(code) {
         let list = message.pieces.list;
         let set = message.set;
         return encoding::asked(

@@ -12,7 +12,7 @@ use Rattle.wire.specs.declared.Decoded.{Decoded}
 use Rattle.drive.specs.declared.Drive.{Drive}
 use Rattle.door.specs.declared.Due.{Due}
 use Rattle.server_lent.specs.declared.stepping.Earlier.{Earlier}
-use Rattle.codec.specs.declared.Encoded.{Encoded}
+use Rattle.encoding.specs.declared.Encoded.{Encoded}
 use Rattle.server_lent.specs.declared.form.Form.{Form}
 use Rattle.server.specs.declared.Log.{Log}
 use Rattle.door.specs.declared.LogEntry.{LogEntry}
@@ -24,12 +24,12 @@ use Rattle.door.specs.declared.Reading.{Reading}
 use Rattle.server.specs.declared.Server.{Server}
 use Rattle.server_lent.specs.declared.planning.Waiting.{Waiting}
 use Rattle.server.specs.declared.Wants.{Wants}
-use Rattle.codec.specs.Answers.{answer}
 use Rattle.door.specs.Exchange.{heardOf, post, take, takeReply}
 use Rattle.door.specs.Readings.{counter, logEntry, result}
 use Rattle.door.specs.Told.{counted}
 use Rattle.drive.specs.Hear.{hear}
 use Rattle.drive.specs.Host.{again, moveOn, recover, start}
+use Rattle.encoding.specs.Answers.{answer}
 use Rattle.server.specs.Host.{fresh, wanted}
 use Rattle.server.specs.Run.{run, runAll}
 use Rattle.server_lent.specs.First.{recordsFresh}

@@ -7,6 +7,7 @@ pub mod DriveHost
 pub mod DriveLent
 pub mod DriveRefusals
 pub mod DriveStep
+pub mod Encoding
 pub mod Faults
 pub mod Graph
 pub mod Lent

@@ -1,8 +1,8 @@
 -- Each kind of message is sent by its sections. Assumes nothing.
 use mathlib.Core.Path.{sym, ap, _∙_}
 use Rattle.wire.specs.Encoding.{Encoding}
-use Rattle.codec.specs.Answers.{answer}
-use Rattle.codec.proofs.EncodeWhole.{encode-bare, encode-asked, encode-answered, encode-12}
+use Rattle.encoding.specs.Answers.{answer}
+use Rattle.encoding.proofs.EncodeWhole.{encode-bare, encode-asked, encode-answered, encode-12}
 use borrow.Author.Needs.{needs}
 use Rattle.codec.proofs.encode.Statement.{statement}
 use Rattle.codec.proofs.encode.Tie as tie

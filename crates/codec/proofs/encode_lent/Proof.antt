@@ -1,8 +1,8 @@
 -- Two kinds of messages are sent by their sections. Assumes nothing.
 use mathlib.Core.Path.{sym, ap, _∙_}
 use Rattle.wire.specs.Encoding.{Encoding}
-use Rattle.codec.specs.Answers.{answer}
-use Rattle.codec.proofs.EncodeWhole.{encode-bare, encode-asked}
+use Rattle.encoding.specs.Answers.{answer}
+use Rattle.encoding.proofs.EncodeWhole.{encode-bare, encode-asked}
 use borrow.Author.Needs.{needs}
 use Rattle.codec.proofs.encode_lent.Statement.{statement}
 use Rattle.codec.proofs.encode_lent.Tie as tie

@@ -9,8 +9,8 @@ use borrow.Author.Tests.{eqb-true}
 use Rattle.masks.proofs.Bools.{and-yes-l, and-yes-r, not-yes, or-no-l, or-no-r}
 use Rattle.xdr.proofs.Windows.{cost}
 use Rattle.wire.specs.declared.Shape.{Shape}
-use Rattle.codec.specs.Sections.{frontLength}
-use Rattle.codec.specs.ByKind.{answeredShape}
+use Rattle.encoding.specs.Sections.{frontLength}
+use Rattle.encoding.specs.ByKind.{answeredShape}
 use borrow.Author.Tests.{eqb-true}
 use Rattle.masks.proofs.Bools.{and-yes-l, and-yes-r, not-yes, or-no-l, or-no-r}
 use Rattle.wire.specs.declared.Shape.{Shape}

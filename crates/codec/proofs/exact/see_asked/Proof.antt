@@ -8,11 +8,11 @@ use lib.ListN.{length}
 use borrow.Author.Tests.{eqb-true, leb-true}
 use Rattle.masks.proofs.Bools.{and-yes-l, and-yes-r}
 use Rattle.xdr.proofs.Windows.{cost}
-use Rattle.codec.specs.ByKind.{askedShape}
+use Rattle.encoding.specs.ByKind.{askedShape}
 use borrow.Author.Tests.{eqb-true, leb-true}
 use Rattle.masks.proofs.Bools.{and-yes-l, and-yes-r}
 use Rattle.xdr.proofs.Windows.{cost}
-use Rattle.codec.specs.ByKind.{askedShape}
+use Rattle.encoding.specs.ByKind.{askedShape}
 use borrow.Author.Needs.{needs}
 use Rattle.codec.proofs.exact.see_asked.Statement.{statement}
 use Rattle.codec.proofs.exact.see_asked.Tie as tie

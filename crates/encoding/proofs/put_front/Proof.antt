@@ -3,11 +3,11 @@ use Prim.Native.Nat.{_+_, _≤_}
 use lib.Dec.{lit<}
 use lib.ListN.{length}
 use Rattle.xdr.specs.Word.{be-length}
-use Rattle.codec.specs.Sections.{cat}
-use Rattle.codec.proofs.WriteWhole.{none-put, section-room, section-put, frontSections, front-is}
+use Rattle.encoding.specs.Sections.{cat}
+use Rattle.encoding.proofs.WriteWhole.{none-put, section-room, section-put, frontSections, front-is}
 use borrow.Author.Needs.{needs}
-use Rattle.codec.proofs.encoding.put_front.Statement.{statement}
-use Rattle.codec.proofs.encoding.put_front.Tie as tie
+use Rattle.encoding.proofs.put_front.Statement.{statement}
+use Rattle.encoding.proofs.put_front.Tie as tie
 
 put-u32-at-requires : tie.Need-put-u32-at-requires
 put-u32-at-requires c κs =

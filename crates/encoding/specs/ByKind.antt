@@ -1,4 +1,4 @@
--- The messages by what they have beside the code and T: nothing, pieces, or a server. It is the table of codes read by kinds; `Rattle.codec.proofs.ByKind` proves it.
+-- The messages by what they have beside the code and T: nothing, pieces, or a server. It is the table of codes read by kinds; `Rattle.encoding.proofs.ByKind` proves it.
 use mathlib.Core.Bool.{Bool, true, false, not, _&&_, _||_}
 use mathlib.Core.List.{List, [], _∷_}
 use Prim.Native.Nat.{ℕ}
@@ -19,7 +19,7 @@ use Rattle.wire.specs.declared.Shape.{Shape}
 use Rattle.wire.specs.Codes.{Accept, Prepare, Inquire, Fetch, PreAcceptOK, AcceptOK, PrepareOK, Done, Behind, Results, commits, has, unknown}
 use Rattle.wire.specs.Parts.{piece, set4, prepared, values}
 use Rattle.wire.specs.Bytes.{code}
-use Rattle.codec.specs.Sections.{front}
+use Rattle.encoding.specs.Sections.{front}
 
 abbrev pub bare : ℕ → Bool
 bare k = eqb k Inquire || eqb k Fetch

@@ -6,14 +6,14 @@ use lib.Dec.{lit<}
 use lib.ListN.{length}
 use Rattle.xdr.specs.Word.{be}
 use Rattle.wire.specs.Encoding.{Encoding}
-use Rattle.codec.specs.Answers.{answer}
-use Rattle.codec.specs.Sections.{cat}
-use Rattle.codec.specs.ByKind.{bareSections}
-use Rattle.codec.proofs.WriteWhole.{cleared, none-put, section-room, section-put}
-use Rattle.codec.proofs.EncodeWhole.{bare-length, sent-14, sent-all}
+use Rattle.encoding.specs.Answers.{answer}
+use Rattle.encoding.specs.Sections.{cat}
+use Rattle.encoding.specs.ByKind.{bareSections}
+use Rattle.encoding.proofs.WriteWhole.{cleared, none-put, section-room, section-put}
+use Rattle.encoding.proofs.EncodeWhole.{bare-length, sent-14, sent-all}
 use borrow.Author.Needs.{needs}
-use Rattle.codec.proofs.encoding.bare.Statement.{statement}
-use Rattle.codec.proofs.encoding.bare.Tie as tie
+use Rattle.encoding.proofs.bare.Statement.{statement}
+use Rattle.encoding.proofs.bare.Tie as tie
 
 refused-requires : tie.Need-refused-requires
 refused-requires c κs = search needs

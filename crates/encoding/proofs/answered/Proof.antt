@@ -8,22 +8,22 @@ use lib.ListN.{length, length-map}
 use borrow.Author.Tests.{ltb-false}
 use Rattle.wire.specs.declared.Shape.{Shape}
 use Rattle.wire.specs.Encoding.{Encoding}
-use Rattle.codec.specs.Answers.{answer, sent}
-use Rattle.codec.specs.Sections.{cat}
-use Rattle.codec.specs.ByKind.{answeredSections}
-use Rattle.codec.proofs.WriteWhole.{cleared, none-put, section-room, section-put}
-use Rattle.codec.proofs.EncodeWhole.{answered-length, few-values, sent-12, sent-14, sent-all}
+use Rattle.encoding.specs.Answers.{answer, sent}
+use Rattle.encoding.specs.Sections.{cat}
+use Rattle.encoding.specs.ByKind.{answeredSections}
+use Rattle.encoding.proofs.WriteWhole.{cleared, none-put, section-room, section-put}
+use Rattle.encoding.proofs.EncodeWhole.{answered-length, few-values, sent-12, sent-14, sent-all}
 use borrow.Author.Tests.{ltb-false}
 use Rattle.wire.specs.declared.Shape.{Shape}
 use Rattle.wire.specs.Encoding.{Encoding}
-use Rattle.codec.specs.Answers.{answer, sent}
-use Rattle.codec.specs.Sections.{cat}
-use Rattle.codec.specs.ByKind.{answeredSections}
-use Rattle.codec.proofs.WriteWhole.{none-put, section-room, section-put}
-use Rattle.codec.proofs.EncodeWhole.{answered-length, few-values, sent-12, sent-14, sent-all}
+use Rattle.encoding.specs.Answers.{answer, sent}
+use Rattle.encoding.specs.Sections.{cat}
+use Rattle.encoding.specs.ByKind.{answeredSections}
+use Rattle.encoding.proofs.WriteWhole.{none-put, section-room, section-put}
+use Rattle.encoding.proofs.EncodeWhole.{answered-length, few-values, sent-12, sent-14, sent-all}
 use borrow.Author.Needs.{needs}
-use Rattle.codec.proofs.encoding.answered.Statement.{statement}
-use Rattle.codec.proofs.encoding.answered.Tie as tie
+use Rattle.encoding.proofs.answered.Statement.{statement}
+use Rattle.encoding.proofs.answered.Tie as tie
 
 answered-shape-requires : tie.Need-answered-shape-requires
 answered-shape-requires c κs = search needs

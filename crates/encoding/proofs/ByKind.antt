@@ -6,7 +6,7 @@ use borrow.Author.Tests.{le-leb, lt-leb}
 use lib.Dec.{lit<}
 use Rattle.wire.specs.Codes.{shapeOf}
 use Rattle.messages.proofs.Fields.{Each, table, other}
-use Rattle.codec.specs.ByKind.{kindShape}
+use Rattle.encoding.specs.ByKind.{kindShape}
 
 pub kind-shape : (k : ℕ) → kindShape k ≡ shapeOf k
 unfolding Each shapeOf kindShape

@@ -6,7 +6,7 @@ use lib.Dec.{ltb}
 use lib.ListN.{length}
 use Rattle.rules.specs.Choice.{_if_else_}
 use Rattle.wire.specs.Encoding.{Encoding, refused, written}
-use Rattle.codec.specs.declared.Encoded.{Encoded}
+use Rattle.encoding.specs.declared.Encoded.{Encoded}
 
 abbrev pub answer : Encoding → Encoded
 answer e = record { refusal = e .refusal; length = e .size }

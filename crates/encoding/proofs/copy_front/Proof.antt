@@ -5,9 +5,9 @@ use Prim.Native.Nat.{ℕ, _≤_, _-_}
 use native.Mathlib.Omega.{arith}
 use lib.ListN.{length, take, set, getD, length-set}
 use Rattle.xdr.specs.Over.{over}
-use Rattle.codec.proofs.WriteWhole.{copy-more}
-use Rattle.codec.proofs.encoding.copy_front.Statement.{statement}
-use Rattle.codec.proofs.encoding.copy_front.Tie as tie
+use Rattle.encoding.proofs.WriteWhole.{copy-more}
+use Rattle.encoding.proofs.copy_front.Statement.{statement}
+use Rattle.encoding.proofs.copy_front.Tie as tie
 
 abbrev Inv-loop : tie.InvT-loop
 Inv-loop out₀ s n i₀ out i = (i ≤ n) × (length out ≡ length out₀) × (out ≡ over (take i s) out₀)

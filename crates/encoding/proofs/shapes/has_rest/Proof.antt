@@ -1,8 +1,8 @@
 -- The tests joined are the definition. Assumes nothing.
 use mathlib.Core.Path.{refl}
-use Rattle.codec.specs.Sections.{long}
-use Rattle.codec.proofs.shapes.has_rest.Statement.{statement}
-use Rattle.codec.proofs.shapes.has_rest.Tie as tie
+use Rattle.encoding.specs.Sections.{long}
+use Rattle.encoding.proofs.shapes.has_rest.Statement.{statement}
+use Rattle.encoding.proofs.shapes.has_rest.Tie as tie
 
 returns : tie.Need-returns
 unfolding long

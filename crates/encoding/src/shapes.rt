@@ -1,7 +1,7 @@
 // The kinds of messages, by what they have beside the code and T.
 ghost use mathlib.Core.Path.{_≡_};
-ghost use Rattle.codec.specs.Sections.{long};
-ghost use Rattle.codec.specs.ByKind.{bare, asked, answered, askedShape, answeredShape};
+ghost use Rattle.encoding.specs.Sections.{long};
+ghost use Rattle.encoding.specs.ByKind.{bare, asked, answered, askedShape, answeredShape};
 use messages::codes::ACCEPT;
 use messages::codes::ACCEPT_OK;
 use messages::codes::BEHIND;

@@ -11,11 +11,11 @@ use Rattle.wire.specs.declared.Shape.{Shape}
 use Rattle.wire.specs.Parts.{piece}
 use Rattle.wire.specs.Encoding.{Encoding}
 use Rattle.wire.proofs.Lengths.{piece-length}
-use Rattle.codec.specs.Answers.{answer, sent}
-use Rattle.codec.specs.Sections.{cat}
-use Rattle.codec.specs.ByKind.{askedShape, askedSections}
-use Rattle.codec.proofs.WriteWhole.{cleared, none-put, section-room, section-put}
-use Rattle.codec.proofs.EncodeWhole.{asked-length, asked-small, sent-12, sent-14, sent-all}
+use Rattle.encoding.specs.Answers.{answer, sent}
+use Rattle.encoding.specs.Sections.{cat}
+use Rattle.encoding.specs.ByKind.{askedShape, askedSections}
+use Rattle.encoding.proofs.WriteWhole.{cleared, none-put, section-room, section-put}
+use Rattle.encoding.proofs.EncodeWhole.{asked-length, asked-small, sent-12, sent-14, sent-all}
 use borrow.Author.Tests.{lt-ltb, le-ltb}
 use Rattle.xdr.specs.Word.{be}
 use Rattle.xdr.specs.Array.{flat-first}
@@ -23,14 +23,14 @@ use Rattle.wire.specs.declared.Shape.{Shape}
 use Rattle.wire.specs.Parts.{piece}
 use Rattle.wire.specs.Encoding.{Encoding}
 use Rattle.wire.proofs.Lengths.{piece-length}
-use Rattle.codec.specs.Answers.{answer, sent}
-use Rattle.codec.specs.Sections.{cat}
-use Rattle.codec.specs.ByKind.{askedShape, askedSections}
-use Rattle.codec.proofs.WriteWhole.{none-put, section-room, section-put}
-use Rattle.codec.proofs.EncodeWhole.{asked-length, asked-small, sent-12, sent-14, sent-all}
+use Rattle.encoding.specs.Answers.{answer, sent}
+use Rattle.encoding.specs.Sections.{cat}
+use Rattle.encoding.specs.ByKind.{askedShape, askedSections}
+use Rattle.encoding.proofs.WriteWhole.{none-put, section-room, section-put}
+use Rattle.encoding.proofs.EncodeWhole.{asked-length, asked-small, sent-12, sent-14, sent-all}
 use borrow.Author.Needs.{needs}
-use Rattle.codec.proofs.encoding.asked.Statement.{statement}
-use Rattle.codec.proofs.encoding.asked.Tie as tie
+use Rattle.encoding.proofs.asked.Statement.{statement}
+use Rattle.encoding.proofs.asked.Tie as tie
 
 refused-requires : tie.Need-refused-requires
 refused-requires c κs = search needs

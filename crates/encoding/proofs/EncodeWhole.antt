@@ -30,10 +30,10 @@ use Rattle.wire.specs.Bytes.{body, bodyOf, code, bytes, unwritable, encodeRefus
 use Rattle.wire.specs.Encoding.{Encoding, refused, written, encode}
 use Rattle.wire.proofs.Longest.{cost-le}
 use Rattle.wire.proofs.Lengths.{piece-length, set-length, values-length, maybe-word-length, maybe-vote-length}
-use Rattle.codec.specs.Answers.{sent}
-use Rattle.codec.specs.Sections.{front, frontLength, cat}
-use Rattle.codec.specs.ByKind.{bare, asked, answered, bareShape, askedShape, answeredShape, kindShape, bareSections, askedSections, answeredSections}
-use Rattle.codec.proofs.ByKind.{kind-shape}
+use Rattle.encoding.specs.Answers.{sent}
+use Rattle.encoding.specs.Sections.{front, frontLength, cat}
+use Rattle.encoding.specs.ByKind.{bare, asked, answered, bareShape, askedShape, answeredShape, kindShape, bareSections, askedSections, answeredSections}
+use Rattle.encoding.proofs.ByKind.{kind-shape}
 
 -- ---- how many bytes a section takes
 

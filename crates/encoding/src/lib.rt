@@ -7,10 +7,9 @@ ghost use lib.ListN.{length, take};
 ghost use Rattle.xdr.specs.Over.{over, Put};
 ghost use Rattle.xdr.proofs.Windows.{cost};
 ghost use Rattle.wire.specs.Bytes.{code};
-ghost use Rattle.codec.specs.Sections.{front, frontLength, cat};
-ghost use Rattle.codec.specs.ByKind.{askedShape, answeredShape, bareSections, askedSections, answeredSections};
-ghost use Rattle.codec.specs.Answers.{answer, sent};
-use crate::Encoded;
+ghost use Rattle.encoding.specs.Sections.{front, frontLength, cat};
+ghost use Rattle.encoding.specs.ByKind.{askedShape, answeredShape, bareSections, askedSections, answeredSections};
+ghost use Rattle.encoding.specs.Answers.{answer, sent};
 use crate::shapes::answered_shape;
 use crate::shapes::asked_shape;
 use parts::put_arrays::put_piece_list;
@@ -26,6 +25,15 @@ use rules::Piece;
 use rules::Set;
 use rules::Values;
 use wire::Shape;
+
+pub mod shapes; // shapes.rt: the kinds of messages
+
+// What encoding answers: the refusal or 0, and how many bytes the message takes, 0 on a refusal.
+#[repr(C)]
+pub struct Encoded {
+    pub refusal: u32,
+    pub length: u32,
+}
 
 // Why nothing is written: the code is unknown or a count is above 8; the output is shorter than the message.
 pub const UNWRITABLE: u32 = 12;

@@ -1,8 +1,8 @@
 -- The header is one word. Assumes nothing.
 use Rattle.wire.specs.Bytes.{code}
 use borrow.Author.Needs.{needs}
-use Rattle.codec.proofs.encoding.put_header.Statement.{statement}
-use Rattle.codec.proofs.encoding.put_header.Tie as tie
+use Rattle.encoding.proofs.put_header.Statement.{statement}
+use Rattle.encoding.proofs.put_header.Tie as tie
 
 put-u32-at-requires : tie.Need-put-u32-at-requires
 put-u32-at-requires c κs = search needs

@@ -11,7 +11,7 @@ use Rattle.xdr.specs.Word.{be}
 use Rattle.xdr.specs.Form.{u32, when}
 use Rattle.xdr.specs.Over.{over, Put, put-none, put-put, room-right}
 use Rattle.wire.specs.declared.Shape.{Shape}
-use Rattle.codec.specs.Sections.{front, cat}
+use Rattle.encoding.specs.Sections.{front, cat}
 
 cat-more : (ss : List (List ℕ)) (i : ℕ) → i < length ss → cat (take (suc i) ss) ≡ cat (take i ss) ++ getD ss i []
 cat-more [] i h = absurd (omega arith)

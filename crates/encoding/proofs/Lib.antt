@@ -1,0 +1,3 @@
+pub mod ByKind
+pub mod WriteWhole
+pub mod EncodeWhole

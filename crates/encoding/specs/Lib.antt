@@ -1,0 +1,3 @@
+pub mod Sections
+pub mod ByKind
+pub mod Answers
