@@ -45,7 +45,7 @@ class Naming:
 
     def bound(self):
         """The parameters of a definition."""
-        return ' '.join([f'(s : {self.state.denot})'] + [f'({name} : {"List ℕ" if isinstance(kind, Slice) else kind.denot})' for name, kind in self.params] + ([self.bound_index()] if self.loop else []))
+        return ' '.join([f'(s : {self.state.denot})' for _ in self.given[:self.lent]] + [f'({name} : {"List ℕ" if isinstance(kind, Slice) else kind.denot})' for name, kind in self.params] + ([self.bound_index()] if self.loop else []))
 
     def bound_index(self):
         return '(i : ℕ)' if self.loop else ''
