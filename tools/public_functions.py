@@ -15,6 +15,7 @@ class Function:
     answer: str
     ensures: list
     exported: bool
+    body: str
     uses: list
     imports: dict
 
@@ -59,7 +60,7 @@ def parameters(text, at):
 
 
 def functions_of(text, prefix):
-    """Each public function of one module's text: path, parameters, type of the answer, ensures clauses, exported or not."""
+    """Each public function of one module's text: path, parameters, type of the answer, ensures clauses, exported or not, body."""
     at = 0
     pattern = re.compile(r'\b(impl)\s+(\w+)\s*\{|\bpub\s+(extern "C"\s+)?fn\s+(\w+)|\bfn\s+(\w+)')
     while True:
@@ -82,9 +83,9 @@ def functions_of(text, prefix):
                 at = after
             else:
                 at += 1
-        _, at = block(text, at)
+        body, at = block(text, at)
         if m.group(4):
-            yield '::'.join(prefix + [m.group(4)]), params, arrow.group(1) if arrow else '', ensures, bool(m.group(3))
+            yield '::'.join(prefix + [m.group(4)]), params, arrow.group(1) if arrow else '', ensures, bool(m.group(3)), body
 
 
 def modules(folder, text, prefix):
@@ -95,10 +96,11 @@ def modules(folder, text, prefix):
         yield from modules(folder / name, below, prefix + [name])
 
 
-def public_functions(root='.'):
+def public_functions(root='.', roots=('lib',)):
+    """Those of the libraries, or with `main` among the roots of the programs too."""
     crates = pathlib.Path(root) / 'crates'
     found = []
-    for lib in sorted(crates.glob('*/src/lib.rt')):
+    for lib in sorted(p for name in roots for p in crates.glob(f'*/src/{name}.rt')):
         crate = lib.parent.parent.name
         text = without_comments(lib.read_text(encoding='utf-8'))
         for prefix, body in modules(lib.parent, text, []):

@@ -38,13 +38,49 @@ class Lent:
         self.token, self.name, self.lifetime, self.share, self.owned, self.denotes, self.machine = token, name, lifetime, share, owned, denotes, machine
 
 
+class Cell:
+    """The cell of the struct that a call is lent: that of the state, or of a local. `at` is where it lies, `name` its name among what is held."""
+
+    def __init__(self, walk, local):
+        self.walk, self.local = walk, None if walk.state and local == 1 else local
+        if self.local is None:
+            self.kind, self.term, self.fact, self.at, self.name = walk.state, walk.cur, walk.was, 'b o', 'cell'
+        else:
+            x = walk.local[local]
+            self.kind, self.term, self.fact, self.at, self.name = x.kind, x.term, x.fact, f'l{local} zero', f'l{local}'
+
+    def laws(self):
+        r = self.kind.row
+        return f'{r} (Is {r}) (shows 𝓤 H A {r}) {self.kind.makes} {self.kind.vals} {self.kind.tells} {self.at}'
+
+    def place(self):
+        """How a statement names it."""
+        return f'(from ! (hop ! (look ! {self.walk.held.at("l1")} refl) (stop !)))' if self.local is None else '(from ! (stop !))'
+
+    def raw(self):
+        """What stands in a local is lent as what lies behind a reference does: at the raw form of its type."""
+        if self.local is not None:
+            self.walk.held.say(f'use1 W (‵ (cellAt fullShare ({self.kind.row} .mir) ({self.kind.vals} {self.term}) {self.at})) (W .laws .at-raw fullShare {self.walk.types[self.local]} {self.at} {self.kind.val(self.term)}) $')
+
+    def typed(self, term):
+        if self.local is not None:
+            τ, v = self.walk.types[self.local], self.kind.val(term)
+            self.walk.held.say(f'use1 W (‵ (fat fullShare {τ} {self.at} {v})) (W .laws .raw-at fullShare {τ} {self.at} {v}) $')
+
+    def becomes(self, tag, text, stands, known, fact):
+        if self.local is None:
+            self.walk.state_becomes(tag, text, stands, known, fact)
+        else:
+            self.walk.local_becomes(self.local, f'{tag}-left', text, fact, known)
+
+
 class Call:
     """One call of a walk."""
 
     def __init__(self, walk, st):
         self.walk, self.st, self.callee = walk, st, walk.callee(st.path)
         self.tag = walk.tag()
-        self.lent_on = self.changes = False
+        self.cell, self.changes = st.lent and Cell(walk, st.lent[0]), False
         self.args = [self.argument(kind, arg) for kind, arg in zip(self.callee.params, st.args)]
         self.lent = [x for x in self.args if isinstance(x, Lent)]
         self.given = [x.denotes_now if isinstance(x, Lent) else x.term for x in self.args]
@@ -54,14 +90,15 @@ class Call:
         if isinstance(arg, Literal):
             return Value(arg.number, Number(arg.width), '(refl, lit< tt)')
         if isinstance(kind, Reference):
-            if w.changes:
-                self.lent_on, self.changes = True, kind.changes
-                ref = f'(record {{ ptr = (b, o); name = δ; now = {w.cur} }})'
-                made = f'‵ ({"MutRef" if kind.changes else "ShrRef"} (named 0) (α ∷ []) {w.state.row} .own {ref} (vptr b o ∷ []))'
-                x = Lent('tok-α', 'ref-α', '(α ∷ [])', 'fullShare', made, ref, '(vptr b o)')
+            c = self.cell
+            if c:
+                self.changes = kind.changes
+                ref = f'(record {{ ptr = ({c.at.replace(" ", ", ")}); name = δ; now = {c.term} }})'
+                made = f'‵ ({"MutRef" if kind.changes else "ShrRef"} (named 0) (α ∷ []) {c.kind.row} .own {ref} (vptr {c.at} ∷ []))'
+                x = Lent('tok-α', 'ref-α', '(α ∷ [])', 'fullShare', made, ref, f'(vptr {c.at})')
             else:
                 x = Lent('tok', 'lent-copy', 'κ', 'q', '‵ lent', 'sr', '(vptr b o)')
-            x.denotes_now, x.written = w.cur, kind.changes
+            x.denotes_now, x.written = c.term if c else w.cur, kind.changes
             return x
         if isinstance(kind, Slice):
             slices = {to: base for base, _, to in self.st.slices}
@@ -72,13 +109,13 @@ class Call:
         return w.local[arg]
 
     def also(self):
-        """The two numbers that a call which is lent the state anew speaks of."""
-        return ' α δ' if self.lent_on else ''
+        """The numbers that a call which is lent a struct anew speaks of."""
+        return (' α δ' + ('' if self.cell.local is None else f' {self.cell.name}')) if self.cell else ''
 
     def lines_before(self):
         """What the call is given, and that it is what the callee requires. The proofs that the arguments fit are named."""
         w, callee = self.walk, self.callee
-        bound = w.bound_index() + (' (α : ℕ) (δ : GName)' if self.lent_on else '')
+        bound = w.bound_index() + ' (α : ℕ) (δ : GName)' * bool(self.cell) + (f' ({self.cell.name} : ℕ)' if self.cell and self.cell.local else '')
         κs, qs = nest([x.lifetime for x in self.lent]), nest([x.share for x in self.lent])
         ds = nest([str(x.denotes if isinstance(x, Lent) else x.term) for x in self.args])
         vs = nest([f'{x.machine} ∷ []' for x in self.args])
@@ -135,28 +172,34 @@ class Call:
         """The proof of one clause, among what was heard."""
         order = list(self.callee.contract.facts)
         i = order.index(left)
-        return 'e' if len(order) == 1 else f'(e{" .1" * i}{" .0" if i < len(order) - 1 else ""})'
+        return 'e' if len(order) == 1 else f'(e .{i})'
 
     def walk_it(self):
         w, h, c, st = self.walk, self.walk.held, self.callee, self.st
         given = [str(g) for g in self.given]
         w.before += self.lines_before()
         h.say(f'-- {c.contract.path}')
-        if self.lent_on:
-            w.assign(st.lent, f'addr ! (from ! (hop ! (look ! {h.at("l1")} refl) (stop !)))', pointer('(vptr b o)'), '(tt, tt)')
-            h.move('cell')
-            h.say(f'{"lends-cell-mut" if self.changes else "lends-cell"} ! tt {w.laws_of_state()} {w.cur} {w.was} (λ α δ.')
+        cell = self.cell
+        if cell:
+            w.assign(st.lent[1], f'addr ! {cell.place()}', pointer(f'(vptr {cell.at})'), '(tt, tt)')
+            h.move(cell.name)
+            cell.raw()
+            h.say(f'{"lends-cell-mut" if self.changes else "lends-cell"} ! tt {cell.laws()} {cell.term} {cell.fact} (λ α δ.')
             h.replace(1, 'tok-α', 'ref-α', 'back-α')
         for base, at, to in st.slices:
             w.lend_slice(base, at, to)
         for x in self.lent:
             if x.name == 'lent-copy':
                 w.copies_reference()
-        h.move(*[y for x in self.lent for y in (x.token, x.name)])
+        names = [y for x in self.lent for y in (x.token, x.name)]
+        while len(names) > 3:
+            h.join(*names[-2:], f'{names[-2]} ..')
+            names[-2:] = [f'{names[-2]} ..']
+        h.move(*names)
         ghost = f'(to-{self.tag}{w.index_name()}{self.also()})'
         facts = [x.fact for x in self.args if isinstance(x, Value)] + self.requirement()
-        h.say(f'use{2 * len(self.lent)} W (raw ({c.spoken} .pre {ghost})) (goes-{self.tag}{w.index_name()}{self.also()} {" ".join(facts)}) $')
-        h.replace(2 * len(self.lent), 'call')
+        h.say(f'use{len(names)} W (raw ({c.spoken} .pre {ghost})) (goes-{self.tag}{w.index_name()}{self.also()} {" ".join(facts)}) $')
+        h.replace(len(names), 'call')
         operands = ''.join(f'(and-then ! {"(lit ! tt)" if isinstance(a, Literal) else w.load(a)} ' for a in st.args) + '(no-more !)' + ')' * len(st.args)
         h.say(f'calls-at ! (fmOf 𝓤 H (W .laws) 𝓣) ({c.spoken}) known-{c.alias} {ghost} {operands} (λ v.')
         κs, ds = nest([x.lifetime for x in self.lent]), nest([str(x.denotes if isinstance(x, Lent) else x.term) for x in self.args])
@@ -164,7 +207,7 @@ class Call:
         h.say(f'use1 W (later (some (λ (r : {c.result.denot}). (({tokens}) ⊛ ‵ ({c.result.row} .own r (v ∷ []))) ⊛ raw (ensured 𝓤 H A fn-{c.alias}.ended (fn-{c.alias}.clauses 𝓤 H A at-mem routines) {κs} {ds} tt r)))) (id⊢ 𝓤 _) $ await ! tt $ pick ! (λ x.')
         h.replace(1, 'mine and said')
         h.split('mine and said', 'mine', 'said')
-        zs = product([w.state.denot if isinstance(x, Lent) and x.written and not hasattr(x, 'slice') else 'List ℕ' if isinstance(x, Lent) and x.written else 'Unit {0}' for x in self.args])
+        zs = product([(cell.kind if cell else w.state).denot if isinstance(x, Lent) and x.written and not hasattr(x, 'slice') else 'List ℕ' if isinstance(x, Lent) and x.written else 'Unit {0}' for x in self.args])
         said, _ = self.said('x')
         h.move('said')
         h.say(f'use1 W (some (λ (zs : {zs}). ‵ (lasts fn-{c.alias}.ended {κs} {ds} zs) ⊛ raw (fact 𝓤 ({said})))) (id⊢ 𝓤 _) $ pick ! (λ zs.')
@@ -191,7 +234,7 @@ class Call:
         h.rewrite(f'l{st.dest}', f'(λ (w : Val). ‵ (fat fullShare {w.types[st.dest]} l{st.dest} zero w))', f'(spelled-as {spoken})')
         value.fact = w.learn(f'is-{self.tag}', f'Is {c.result.row} {told} ({value.machine} ∷ [])', f'(is-spelled {spoken})')
         w.local[st.dest] = value
-        if self.lent_on:
+        if cell:
             self.take_back(given)
 
     def take_lasts(self):
@@ -223,16 +266,18 @@ class Call:
         h.drop('lasts')
 
     def take_back(self, given):
-        """The state that was lent on comes back."""
-        w, h = self.walk, self.walk.held
+        """The struct that was lent on comes back."""
+        h, cell = self.walk.held, self.cell
         if not self.changes:
             h.move('tok-α', 'back-α')
-            h.say(f'back-cell ! tt {w.laws_of_state()} {w.cur} $')
-            h.replace(2, 'cell')
+            h.say(f'back-cell ! tt {cell.laws()} {cell.term} $')
+            cell.typed(cell.term)
+            h.replace(2, cell.name)
             return
         h.move('tok-α', 'back-α', 'last-α')
         i = next(i for i, x in enumerate(self.args) if isinstance(x, Lent) and x.name == 'ref-α')
-        h.say(f'back-cell-mut ! tt {w.laws_of_state()} (zs{path_to(i)}) (λ was-left.')
-        h.replace(3, 'cell')
+        h.say(f'back-cell-mut ! tt {cell.laws()} (zs{path_to(i)}) (λ was-left.')
+        cell.typed(f'(zs{path_to(i)})')
+        h.replace(3, cell.name)
         left = f'now ({self.callee.contract.params[i][0]} .exit)'
-        w.state_becomes(self.tag, self.callee.contract.last(i, given), f'(zs{path_to(i)})', self.fact(left), 'was-left')
+        cell.becomes(self.tag, self.callee.contract.last(i, given), f'(zs{path_to(i)})', self.fact(left), 'was-left')

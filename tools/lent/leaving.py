@@ -33,8 +33,9 @@ class Leaving:
 
     def leave(self, within, way=None):
         """The borrow is closed, the result returned, every local freed, and the contract met."""
-        h, r = self.held, self.state.row
+        h = self.held
         if self.changes:
+            r = self.state.row
             h.move('cell')
             h.say(f'owned ! {r} (Is {r}) {self.state.makes} {self.cur} _ {self.was} $')
             h.names.insert(0, 'own')
@@ -54,12 +55,12 @@ class Leaving:
         for p in reversed(self.slices.values()):
             h.join(f'tok-{p.lifetime}', 'tokens', 'tokens')
         written = [p for p in self.slices.values() if p.written]
-        h.keep(*(['obs-left', 'bor'] if self.changes else []), 'tok', 'tokens', *[f'final-{p.lifetime}' for p in written])
+        h.keep(*['obs-left', 'bor'] * self.changes, *['tok'] * self.lent, 'tokens', *[f'final-{p.lifetime}' for p in written])
         ends = [self.ending('told', result.term, self.contract.result(self.given), way)]
         if self.changes:
             ends.append(self.ending('left', self.cur, self.contract.last(0, self.given), way))
         for p in written:
-            i = 1 + [name for name, _ in self.params].index(p.name)
+            i = self.lent + [name for name, _ in self.params].index(p.name)
             ends.append(self.ending('written', p.last, self.contract.last(i, self.given), way))
         state = f'{self.cur} ' if self.changes else ''
         h.say(f'by ! (exits {state}{result.term} {result.machine} {"".join(p.last + " " for p in written)}{" ".join(ends)} {"".join(p.same + " " for p in written)}{result.fact})')
@@ -73,10 +74,10 @@ class Leaving:
         lemma = f'{what}-end{"-" + way if way else ""}'
         found = self.find_law(law)
         was = found and asks_sound(found)
-        asks = ['Sound s'] + [f'{term} ≡ {b}' for _, _, b, term in tests]
+        asks = ['Sound s'] * self.lent + [f'{term} ≡ {b}' for _, _, b, term in tests]
         said = '' if found else ' '.join([contract] + self.definitions)
         unfolds = self.defined_names + sorted({n for n in re.findall(r"[\w′-]+", said) if n in self.cited and unfoldable(self.cited[n], n)})
         names = [f't{i}' for i in range(len(tests))]
         self.definitions += [f'{lemma} : {self.bound()} → ' + ''.join(f'{self.inner(a)} → ' for a in asks) + f'{self.inner(value)} ≡ {self.inner(contract)}',
-                             f'unfolding {" ".join(unfolds)}', f'{lemma} {self.args(True)} was {" ".join(names)} = ' + (f'{law} {self.args(True)}{" was" if was else ""} {" ".join(names)}' if found else 'refl'), '']
-        return f'({lemma} {self.args()} was {" ".join(known for _, known, _, _ in tests)})'
+                             f'unfolding {" ".join(unfolds)}', f'{lemma} {self.args(True)} {"was " * self.lent}{" ".join(names)} = ' + (f'{law} {self.args(True)}{" was" if was else ""} {" ".join(names)}' if found else 'refl'), '']
+        return f'({lemma} {self.args()} {"was " * self.lent}{" ".join(known for _, known, _, _ in tests)})'

@@ -95,17 +95,13 @@ def statement(body):
     if first[0] == 'if':
         return Statement('branch', 1, test=operand(first[1]), taken=in_order(first[2]))
     if first[0] == 'call':
-        return called(first, 1, None, [])
+        return called(body)
     local, path = place_of(first[1])
     rvalue = first[2]
     if path:
         return Statement('store', 1, base=local, fields=[x for x in path if x != 'deref'], source=operand(rvalue[1]), index=None)
-    if rvalue[0] == 'addrOf':
-        base, steps = place_of(rvalue[1])
-        if steps == ['deref']:
-            return called(body[1], 2, local, [])
-        if steps == [0, 'deref']:
-            return called(body[2], 3, None, [(base, local, place_of(body[1][1])[0])])
+    if rvalue[0] == 'addrOf' and place_of(rvalue[1])[1] in ([], ['deref'], [0, 'deref']):
+        return called(body)
     if rvalue[0] == 'op2':
         return computed(local, rvalue, body)
     if rvalue[0] == 'rvOpd' and rvalue[1][0] == 'copy':
@@ -118,9 +114,19 @@ def statement(body):
     raise SystemExit(f'no walk over {first}')
 
 
-def called(term, size, lent, slices):
-    """A call; `lent` is the local that has the state lent on, `slices` those that have a `&mut [u8]` lent on."""
-    return Statement('call', size, path=term[1][1][1], args=[operand(x) for x in listed(term[2])], dest=place_of(term[3])[0], lent=lent, slices=slices)
+def called(body):
+    """A call, with what is lent to it before: `lent` is the struct, as the local that it stands in or behind, and the local that refers to it; `slices` are the `&mut [u8]`s."""
+    at, lent, slices = 0, None, []
+    while body[at][0] == 'assign':
+        to, (base, steps) = place_of(body[at][1])[0], place_of(body[at][2][1])
+        if steps == [0, 'deref']:
+            slices.append((base, to, place_of(body[at + 1][1])[0]))
+            at += 1
+        else:
+            lent = (base, to)
+        at += 1
+    term = body[at]
+    return Statement('call', at + 1, path=term[1][1][1], args=[operand(x) for x in listed(term[2])], dest=place_of(term[3])[0], lent=lent, slices=slices)
 
 
 def computed(local, rvalue, body):

@@ -10,7 +10,7 @@ LIBRARY = [
     ('mir.Val', 'Val vptr vint vbool hasTy WT'), ('base.Logic', 'SProp ent emp via fst∗ id⊢'),
     ('base.Fml', 'GName Lft Share Fml ftrue fat froom fdies flft fobs fauth fbor fobor'), ('prog.Memory', 'Memory size'), ('prog.Routine', 'Routine'),
     ('prog.Wp', 'Heap Out Env Wp WpFn Tables afterSeq afterBlock afterTurn atReturn'), ('ghost.Atoms', 'Atoms'), ('contract.Monad', 'Fun fact'), ('contract.Running', 'givenOf tables tablesOf'),
-    ('types.Kit', 'Item ⋆ Given Sq runs atRet anyQ ‵ raw _⊛_ some later _$_ _∵_ ! qed by move keep drop use0 use1 use2 split join pick rewrite fsplit fsplit3 fjoin fjoin3 feqI feqL suffices frame await done'),
+    ('types.Kit', 'Item ⋆ Given Sq runs atRet anyQ ‵ raw _⊛_ some later _$_ _∵_ ! qed by move keep drop use0 use1 use2 use3 split join pick rewrite fsplit fsplit3 fjoin fjoin3 feqI feqL suffices frame await done'),
     ('types.Run', 'look look-raw init store store-raw forget stop hop fld from load lit bin addr of-opd and-then no-more assigns assigns-last land first branches skips exec stays leaves-loop blocks loops again Below returns returns-within enter alloc1 alloc0 params1 pass1 pass0 free1 free0'),
     ('types.Part', 'agg whole sub look-in store-in'), ('types.SemTy', 'Body'), ('sound.WpLaws', 'fmOf WpFn-mono'), ('denote.RattleType', 'owns'),
     ('denote.Laws', 'Is shows'), ('denote.Memory', 'cellAt mem pointee'), ('denote.Plain', 'Boolean uint-vals uint-tells uint-makes uint-lawful bool-vals bool-tells bool-makes bool-lawful'), ('denote.Builtin', 'u8 u32 usize'),

@@ -45,7 +45,7 @@ class Naming:
 
     def bound(self):
         """The parameters of a definition."""
-        return ' '.join([f'(s : {self.state.denot})'] + [f'({name} : {"List ℕ" if isinstance(kind, Slice) else kind.denot})' for name, kind in self.params] + ([self.bound_index()] if self.loop else []))
+        return ' '.join([f'(s : {self.state.denot})' for _ in self.given[:self.lent]] + [f'({name} : {"List ℕ" if isinstance(kind, Slice) else kind.denot})' for name, kind in self.params] + ([self.bound_index()] if self.loop else []))
 
     def bound_index(self):
         return '(i : ℕ)' if self.loop else ''
@@ -99,8 +99,8 @@ class Naming:
         if not found:
             raise SystemExit(f'{self.contract.path}: no law {name} shows {statement}')
         lemma, was = f'{what}-{self.tag()}', ' was' * asks_sound(found)
-        self.definitions += [f'{lemma} : {self.bound()} → Sound s → {self.inner(statement)}', f'unfolding {" ".join(self.defined_names)}', f'{lemma} {self.args(True)} was = {name} {self.args(True)}{was}', '']
-        return f'({lemma} {self.args()} was)'
+        self.definitions += [f'{lemma} : {self.bound()} → {"Sound s → " * self.lent}{self.inner(statement)}', f'unfolding {" ".join(self.defined_names)}', f'{lemma} {self.args(True)}{" was" * self.lent} = {name} {self.args(True)}{was}', '']
+        return f'({lemma} {self.args()}{" was" * self.lent})'
 
     def requires(self, given=None):
         return self.contract.term(self.contract.requires, given or self.given)

@@ -2,7 +2,7 @@
 import re
 from lent.calls import Call
 from lent.held import Held, Value, closed, one_line, pointer, row
-from lent.kinds import Number, Slice, kind_of, machine
+from lent.kinds import Number, Reference, Slice, kind_of, machine
 from lent.leaving import Leaving
 from lent.loops import Loop
 from lent.mir import Literal, routines, statements
@@ -15,8 +15,15 @@ RESERVED = {'a', 'at', 'b', 'e', 'i', 'is', 'o', 'q', 's', 'u', 'v', 'x', 'f', '
 
 
 def lent_functions():
-    """The paths of the functions that are lent a struct."""
-    return [f'{f.crate}::{f.path}' for f in public_functions() if f.params and re.match(r'&(mut )?[A-Z]', f.params[0][1])]
+    """The paths of the functions that are lent a struct, or that lend one of their locals."""
+    return [f'{f.crate}::{f.path}' for f in public_functions(roots=('lib', 'main')) if f.params and (re.match(r'&(mut )?[A-Z]', f.params[0][1]) or lends_local(f))]
+
+
+def lends_local(f):
+    """Whether a function by value lends its first parameter, which is a struct, or the copy of it."""
+    name, kind = f.params[0]
+    copy = re.search(rf'let mut (\w+) = {name};', f.body)
+    return bool(re.match('[A-Z]', kind) and re.search(rf'&(mut )?({name}{"|" + copy.group(1) if copy else ""})\b', f.body))
 
 
 class SliceParameter:
@@ -39,15 +46,16 @@ class Walk(Naming, Leaving):
         self.law = hyphens(self.contract.name).removeprefix('drobulets-')
         routine = routines(self.crate)[path]
         kinds = [kind_of(t) for t in routine.types[:routine.many_params + 1]]
-        self.result, reference = kinds[0], kinds[1]
-        self.state, self.changes = reference.struct, reference.changes
+        self.result, reference = kinds[0], kinds[1] if isinstance(kinds[1], Reference) else None
+        self.state, self.changes = reference and reference.struct, bool(reference) and reference.changes
+        self.lent = 1 if reference else 0       # how many of the parameters are the lent state
         self.types = [machine(t) for t in routine.types]
-        self.params = [(name + '′' * (name in RESERVED), kind) for (name, _), kind in zip(self.contract.params[1:], kinds[2:])]
-        self.slices = {2 + j: SliceParameter(name, kind) for j, (name, kind) in enumerate(self.params) if isinstance(kind, Slice)}
-        self.given = ['s'] + [f'({name} .now)' if isinstance(kind, Slice) else name for name, kind in self.params]
+        self.params = [(name + '′' * (name in RESERVED), kind) for (name, _), kind in zip(self.contract.params[self.lent:], kinds[self.lent + 1:])]
+        self.slices = {self.lent + 1 + j: SliceParameter(name, kind) for j, (name, kind) in enumerate(self.params) if isinstance(kind, Slice)}
+        self.given = ['s'] * self.lent + [f'({name} .now)' if isinstance(kind, Slice) else name for name, kind in self.params]
         self.structs, self.callees, self.tellers, self.parts, self.parts_stored = {}, {}, {}, {}, {}
         self.cited = dict(self.contract.cited)
-        for kind in [self.state, self.result] + [kind for _, kind in self.params]:
+        for kind in [self.state] * self.lent + [self.result] + [kind for _, kind in self.params]:
             self.note(kind)
         self.definitions, self.before, self.lemmas, self.defined_names = [], [], [], []
         self.held, self.local, self.known, self.learned, self.loop = Held(), {}, [], [], None
@@ -57,17 +65,12 @@ class Walk(Naming, Leaving):
 
     # ---- what is held
 
-    def laws_of_state(self):
-        r = self.state.row
-        return f'{r} (Is {r}) (shows 𝓤 H A {r}) {self.state.makes} {self.state.vals} {self.state.tells} b o'
-
     def item(self, name):
         """How a proof writes what is held under a name."""
-        r = self.state.row
-        code = f'({r} .coded .code s)'
-        kept = {'tok': '‵ (flft κ q)', 'lent': '‵ lent', 'cell': f'‵ (cellAt fullShare ({r} .mir) ({self.state.vals} {self.cur}) b o)', 'obor': f'‵ (fobor κ q (Body (mem {r}) b o γ))', 'obs': f'‵ (fobs γ {code})', 'auth': f'‵ (fauth γ {code})'}
-        if name in kept:
-            return kept[name]
+        if name in ('tok', 'lent', 'cell', 'obor', 'obs', 'auth'):
+            r = self.state.row
+            code = f'({r} .coded .code s)'
+            return {'tok': '‵ (flft κ q)', 'lent': '‵ lent', 'cell': f'‵ (cellAt fullShare ({r} .mir) ({self.state.vals} {self.cur}) b o)', 'obor': f'‵ (fobor κ q (Body (mem {r}) b o γ))', 'obs': f'‵ (fobs γ {code})', 'auth': f'‵ (fauth γ {code})'}[name]
         for p in self.slices.values():
             for prefix, text in (('tok', f'flft κ{p.lifetime} q{p.lifetime}'), ('own', p.owned), ('final', f'finally u8 ({p.name} .name) {p.last}')):
                 if name == f'{prefix}-{p.lifetime}':
@@ -135,11 +138,11 @@ class Walk(Naming, Leaving):
         self.cur = left
         self.was = self.learn(f'was-{tag}', f'Sound {left}', f'(subst Sound {same} {fact})')
 
-    def local_becomes(self, local, tag, text, fact):
+    def local_becomes(self, local, tag, text, fact, known=None):
         """The same of a struct that stands in a local."""
         kind = self.local[local].kind
         made = self.define('made', tag, kind.denot, text)
-        same = f'({self.defined("made", tag)})'
+        same = f'({known + " ∙ " if known else ""}{self.defined("made", tag)})'
         self.held.rewrite(f'l{local}', f'(λ (h : {kind.denot}). ‵ (fat fullShare {self.types[local]} l{local} zero {kind.val("h")}))', same)
         value = Value(made, kind, None)
         value.fact = self.learn(f'is-{tag}', f'Is {kind.row} {made} ({value.machine} ∷ [])', f'(subst (λ (h : {kind.denot}). Is {kind.row} h ({kind.val("h")} ∷ [])) {same} {fact})')
@@ -151,18 +154,19 @@ class Walk(Naming, Leaving):
         """The parameters stand in their locals."""
         many = len(self.types)
         locals_ = [x for i in reversed(range(many)) for x in (f'l{i}', f'd{i}')]
-        self.held.names = (['cell', 'obor', 'obs', 'auth'] if self.changes else ['tok', 'lent']) + locals_ + [x for p in self.slices.values() for x in (f'tok-{p.lifetime}', f'own-{p.lifetime}')]
+        self.held.names = (['cell', 'obor', 'obs', 'auth'] if self.changes else ['tok', 'lent'] * self.lent) + locals_ + [x for p in self.slices.values() for x in (f'tok-{p.lifetime}', f'own-{p.lifetime}')]
         self.first = list(self.held.names)
-        self.local[1] = pointer('(vptr b o)')
-        for j, (name, kind) in enumerate(self.params):
-            self.local[2 + j] = pointer(self.slices[2 + j].machine) if isinstance(kind, Slice) else Value(name, kind, f'is-{name}')
+        if self.state:
+            self.local[1] = pointer('(vptr b o)')
+        for i, (name, kind) in enumerate(self.params, self.lent + 1):
+            self.local[i] = pointer(self.slices[i].machine) if isinstance(kind, Slice) else Value(name, kind, f'is-{name}')
 
     def do(self, st):
         if st.what == 'call':
             Call(self, st).walk_it()
-        elif st.what == 'read':
+        elif st.what == 'read' and self.state:
             read(self, st)
-        elif st.what == 'store':
+        elif st.what == 'store' and self.state:
             store(self, st)
         elif st.what == 'copy' and isinstance(st.source, Literal):
             self.assign(st.dest, 'of-opd ! (lit ! tt)', Value(st.source.number, Number(st.source.width), '(refl, lit< tt)'), '(tt, record { fits = lit< tt })')

@@ -1,17 +1,21 @@
 // The cases of ballots, counters, bytes and a drive: G, H, K and L.
+use crate::feed::heard;
 use crate::feed::no_set;
 use crate::feed::put5;
 use crate::feed::same;
 use crate::feed::same_set;
 use crate::feed::words;
+use crate::host;
 use counters::Counter;
 use drive::Drive;
 use messages::asks::inquire;
 use messages::replies::pre_accept_ok;
+use station::messages::drobulets_decode;
+use station::messages::drobulets_next_ballot;
 
 // The next ballot of c above n is this one, or is refused.
 fn next_is(c: u32, n: u32, refusal: u32, ballot: u32) -> bool {
-    let b = rules::Ballot::next(c, n);
+    let b = drobulets_next_ballot(c, n);
     (b.refusal == refusal) & (b.ballot == ballot)
 }
 
@@ -37,13 +41,13 @@ pub fn case_h() -> bool {
 pub fn case_k() -> bool {
     let bytes = [0u8, 0, 0, 4, 0, 0, 0, 9];
     let mut out = [255u8; 9];
-    let wrote = codec::encode(inquire(9), &mut out);
+    let wrote = host::encode(inquire(9), &mut out);
     let front = (out[0] == 0) & (out[1] == 0) & (out[2] == 0) & (out[3] == 4);
     let behind = (out[4] == 0) & (out[5] == 0) & (out[6] == 0) & (out[7] == 9);
-    let back = codec::decode(&bytes);
-    let cut = codec::decode(&bytes[..7]);
-    let more = codec::decode(&[0u8, 0, 0, 4, 0, 0, 0, 9, 0]);
-    let six = codec::decode(&[0u8, 0, 0, 6, 0, 0, 0, 9]);
+    let back = drobulets_decode(&bytes);
+    let cut = drobulets_decode(&bytes[..7]);
+    let more = drobulets_decode(&[0u8, 0, 0, 4, 0, 0, 0, 9, 0]);
+    let six = drobulets_decode(&[0u8, 0, 0, 6, 0, 0, 0, 9]);
     (wrote.refusal == 0)
         & (wrote.length == 8)
         & front
@@ -57,18 +61,17 @@ pub fn case_k() -> bool {
 }
 
 // The drive of T8 after three arrival words.
-fn heard(a: u64, b: u64, c: u64) -> Drive {
+fn of_words(a: u64, b: u64, c: u64) -> Drive {
     let any = drive_host::began(0, 0, 0, 0, put5(), 0);
-    let started = drive_host::start(any, 0, 8, put5());
-    let first = drive_step::hear(started.drive, pre_accept_ok(8, 0, 0, a));
-    let second = drive_step::hear(first.drive, pre_accept_ok(8, 1, 0, b));
-    let third = drive_step::hear(second.drive, pre_accept_ok(8, 2, 0, c));
-    third.drive
+    let started = host::start(any, 0, 8, put5());
+    let first = heard(started.drive, pre_accept_ok(8, 0, 0, a));
+    let second = heard(first, pre_accept_ok(8, 1, 0, b));
+    heard(second, pre_accept_ok(8, 2, 0, c))
 }
 
 pub fn case_l() -> bool {
-    let slow = heard(0, 0, 2);
-    let fast = heard(0, 0, 0);
+    let slow = of_words(0, 0, 2);
+    let fast = of_words(0, 0, 0);
     (slow.phase == 2)
         & same_set(slow.chosen.set, words(2, 0))
         & (fast.phase == 3)

@@ -7,6 +7,7 @@ use crate::feed::same_set;
 use crate::feed::server0;
 use crate::feed::two;
 use crate::feed::words;
+use crate::host;
 use messages::asks::commit;
 use rules::Pieces;
 use server::Server;
@@ -26,29 +27,40 @@ fn eight() -> Server {
     after(server0(), commit(8, put55(), words(0, 2)))
 }
 
+// The log has this number at this place.
+fn logged(s: Server, place: u32, number: u32) -> bool {
+    let e = host::log(s, place);
+    (e.some == 1) & (e.number == number)
+}
+
+// The log ends before this place.
+fn unlogged(s: Server, place: u32) -> bool {
+    let e = host::log(s, place);
+    e.some == 0
+}
+
 pub fn case_d() -> bool {
     let s = after(eight(), commit(1, add22(), words(256, 0)));
-    let r = server_run::run(s);
+    let r = host::run(s);
     let n = r.server;
-    let log = n.log;
-    let counters = n.counters;
-    let third = counters.list[3];
+    let third = host::counter(n, 3);
     (r.refusal == 0)
         & (r.many == 2)
-        & (log.count == 2)
-        & (log.list[0] == 1)
-        & (log.list[1] == 8)
+        & logged(n, 0, 1)
+        & logged(n, 1, 8)
+        & unlogged(n, 2)
+        & (third.some == 1)
         & (third.value == 5)
 }
 
 pub fn case_e() -> bool {
     let s = eight();
-    let r = server_run::run(s);
+    let r = host::run(s);
     let n = r.server;
-    let w = server_run::wanted(n);
+    let w = host::wanted(n);
     (r.refusal == 0)
         & (r.many == 0)
-        & (n.log.count == 0)
+        & unlogged(n, 0)
         & (w.refusal == 0)
         & same_set(w.set, words(0, 2))
 }
@@ -56,8 +68,8 @@ pub fn case_e() -> bool {
 pub fn case_f() -> bool {
     let s = after(server0(), commit(1, add2(), no_set()));
     let t = after(s, commit(2, add2(), words(2, 0)));
-    let first = server_run::run(t);
-    let second = server_run::run(first.server);
-    let third = server_run::run(second.server);
+    let first = host::run(t);
+    let second = host::run(first.server);
+    let third = host::run(second.server);
     (first.many == 1) & (second.many == 1) & (third.many == 0) & (third.refusal == 0)
 }

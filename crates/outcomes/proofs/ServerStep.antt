@@ -1,19 +1,11 @@
 -- Two outcomes that meet the contract of a public function of `server_step` are equal. Written by tools/outcomes. Assumes nothing.
 use mathlib.Core.Path.{sym, _∙_}
 use Rattle.outcomes.specs.Once.{Answers}
-use Rattle.server_step.proofs.consider.Reads as server-step·consider-contract
-use Rattle.server_step.proofs.step.Reads as server-step·step-contract
 use Rattle.server_step.proofs.refusals.refusal_by.Reads as server-step·refusals·refusal-by-contract
 use Rattle.server_step.proofs.record.place_of.Reads as server-step·record·place-of-contract
 use Rattle.server_step.proofs.record.looked.Reads as server-step·record·looked-contract
 use Rattle.server_step.proofs.record.came_earlier.Reads as server-step·record·came-earlier-contract
 use Rattle.server_step.proofs.record.change_by.Reads as server-step·record·change-by-contract
-
-pub server-step·consider : Answers server-step·consider-contract.Post
-server-step·consider κ a x y e e′ p q = p ∙ sym q
-
-pub server-step·step : Answers server-step·step-contract.Post
-server-step·step κ a x y e e′ p q = p ∙ sym q
 
 pub server-step·refusals·refusal-by : Answers server-step·refusals·refusal-by-contract.Post
 server-step·refusals·refusal-by κ a x y e e′ p q = p ∙ sym q

@@ -119,9 +119,6 @@ over-insert w g (suc n) hw h =
     insert-turn (has g n) (over insert w g n) w (maskOf (has g) n) n hw (below-64 (has g) n (omega arith)) (omega arith) (over-insert w g n hw (omega arith))
 
 module _ (s : Server) (g : ℕ) where
-  pub over-id : (n : ℕ) → over runOne s g n .id ≡ s .id
-  over-id n = over-keeps (λ x. x .id ≡ s .id) runOne s g n refl (λ x i l e p. one-id x i ∙ p)
-
   pub over-long : (n : ℕ) → length (over runOne s g n .records) ≡ length (s .records)
   over-long n = over-keeps (λ x. length (x .records) ≡ length (s .records)) runOne s g n refl (λ x i l e p. one-long x i ∙ p)
 
@@ -151,10 +148,6 @@ module _ (s : Server) (g : ℕ) where
 -- ---- all numbers of g
 
 module _ (s : Server) (g : ℕ) where
-  pub group-id : runGroup s g .id ≡ s .id
-  unfolding runGroup
-  group-id = over-id s g 64
-
   pub group-long : length (runGroup s g .records) ≡ length (s .records)
   unfolding runGroup
   group-long = over-long s g 64

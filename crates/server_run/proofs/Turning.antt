@@ -1,49 +1,35 @@
--- Runs on one copy of the server, whose counters and log stand beside it meanwhile: what holds between two runs, and what the stores for one number make of it.
+-- Runs one after the other, up to a limit: what holds between two of them.
 -- The walk asks the words that were gathered once: no run changes the dependencies or the commits, and what has run grows by what was run. Assumes nothing.
 use Prim.Native.Nat.{ℕ, zero, suc, _+_, _-_, _^_, _≤_, _<_}
 use mathlib.Core.Path.{_≡_, refl, sym, ap, ap₂, _∙_, subst}
 use native.Mathlib.Omega.{arith}
 use mathlib.Core.Bool.{Bool, true, false, cond}
 use mathlib.Core.List.{List}
-use lib.ListN.{length, set}
+use lib.ListN.{length}
 use Rattle.masks.specs.Bits.{has, union}
-use Rattle.masks.specs.Folds.{tab, iter, over, size}
+use Rattle.masks.specs.Folds.{tab, over, size}
 use Rattle.masks.proofs.Laws.{Sub, sub-refl, sub-trans, sub-left}
 use Rattle.masks.proofs.FoldLaws.{over-keeps}
-use Rattle.masks.proofs.Counts.{count-le}
-use Rattle.rules.specs.declared.Pieces.{Pieces}
-use Rattle.rules.specs.declared.Values.{Values}
-use Rattle.rules.specs.Cluster.{shardOf}
-use Rattle.rules.specs.Pieces.{onShard}
 use Rattle.graph.specs.Walk.{rowsOf, nextGroup}
 use Rattle.graph.proofs.Rows.{Words}
 use Rattle.graph.proofs.Groups.{Kept}
 use Rattle.graph.proofs.NextGroups.{next-keeps, next-adds, next-room}
-use Rattle.counters.specs.declared.Counters.{Counters}
-use Rattle.counters.specs.declared.Executed.{Executed}
-use Rattle.counters.specs.Effects.{runEntry, execute}
-use Rattle.counters.proofs.Results.{count-after}
-use Rattle.counters.proofs.PerKey.{begun, length-after, counters-length}
+use Rattle.counters.proofs.PerKey.{counters-length}
 use Rattle.counters.proofs.PerPiece.{counted-less}
-use Rattle.server.specs.declared.Log.{Log}
 use Rattle.server.specs.declared.Ran.{Ran}
 use Rattle.server.specs.declared.Server.{Server}
-use Rattle.server.specs.Held.{recordAt, shard, committedWord, ranWord, append}
+use Rattle.server.specs.Held.{recordAt, shard, committedWord, ranWord}
 use Rattle.server.specs.Form.{formed}
-use Rattle.server.specs.Run.{depsOf, nextRun, withResults, stored, runOne, runGroup, run, runAll, turns, ranFrom, ranNone}
+use Rattle.server.specs.Run.{depsOf, nextRun, runOne, runGroup, run, runAll, turns, ranFrom, ranNone}
 use Rattle.server.proofs.FormParts.{formed-parts}
 use Rattle.server.proofs.LogGrows.{lined-size}
-use Rattle.server.proofs.RunGroups.{over-id, over-count, group-id, group-long, group-deps, group-committed-word, group-count, group-ran}
+use Rattle.server.proofs.RunGroups.{over-count, group-long, group-deps, group-committed-word, group-count, group-ran}
 use Rattle.server.proofs.RunKeepsForm.{formed-lined, log-kept}
 use Rattle.server.proofs.RunTurns.{turns-none, turns-stop, turns-more, turn-once}
 use Rattle.server_form.specs.OnePass.{readLog}
 use Rattle.server_run.specs.Gathered.{unrunAt}
 use Rattle.server_run.specs.Limited.{allowed, refusalOf, ranUpTo}
 use Rattle.server_run.proofs.Unrun.{read-log, read-ran, next-unrun}
-
--- the copy with its counters and its log
-abbrev pub whole : Server → Counters → Log → Server
-whole n c l = record { id = n .id; records = n .records; counters = c; log = l }
 
 -- ---- the limit
 
@@ -80,16 +66,14 @@ run-until s = refl
 
 -- ---- between two runs
 
--- what was gathered of s: its shard, its form, and the words that the walk asks
-pub record Asked (s : Server) (k : ℕ) (form : Bool) (committed : ℕ) (rows : List ℕ) (limit : ℕ) : Type 0 where
-  pub own : k ≡ shard s
-  pub true-form : form ≡ formed s
+-- what was gathered of s, which keeps its form where there may be a run: the words that the walk asks
+pub record Asked (s : Server) (committed : ℕ) (rows : List ℕ) (limit : ℕ) : Type 0 where
   pub fine : 0 < limit → formed s ≡ true
   pub graph : rows ≡ rowsOf (tab (unrunAt s) 64)
   pub commits : committed ≡ committedWord s
   pub words : Words (depsOf s)
 
--- the copy n, with `left` runs to go of the `limit` that began at s
+-- n, with `left` runs to go of the `limit` that began at s
 pub record Going (s : Server) (limit ran : ℕ) (n : Server) (left : ℕ) : Type 0 where
   pub few : left ≤ limit
   pub same : turns left n ≡ turns limit s
@@ -101,8 +85,6 @@ pub record Going (s : Server) (limit ran : ℕ) (n : Server) (left : ℕ) : Type
   pub count : 0 < left → n .log .count ≡ size ran
   pub long : length (n .records) ≡ 64
   pub keys : length (n .counters .list) ≡ 16
-  pub id : n .id ≡ s .id
-  pub more : s .log .count ≤ n .log .count
 
 pub going-start : (s : Server) (limit ran : ℕ) → length (s .records) ≡ 64 → length (s .counters .list) ≡ 16 → (0 < limit → formed s ≡ true) → ran ≡ readLog (s .log) .word → Going s limit ran s limit
 going-start s limit ran l k f e = record {
@@ -116,8 +98,6 @@ going-start s limit ran l k f e = record {
   count = λ h. sym (ap size (e ∙ read-log s (f h)) ∙ lined-size (s .log) (formed-lined s (formed-parts s (f h))));
   long = l;
   keys = k;
-  id = refl;
-  more = omega arith;
 }
 
 group-over : (n : Server) (g : ℕ) → runGroup n g ≡ over runOne n g 64
@@ -141,7 +121,7 @@ module _ {s : Server} {limit ran : ℕ} {n : Server} {left : ℕ} (go : Going s 
   pub going-done : left ≡ 0 → n ≡ turns limit s
   going-done e = sym (turns-none n) ∙ ap (λ (k : ℕ). turns k n) (sym e) ∙ go .same
 
-  module _ {k committed : ℕ} {form : Bool} {rows : List ℕ} (asked : Asked s k form committed rows limit) (g : ℕ) (found : g ≡ nextGroup rows committed ran) (h : 0 < left) where
+  module _ {committed : ℕ} {rows : List ℕ} (asked : Asked s committed rows limit) (g : ℕ) (found : g ≡ nextGroup rows committed ran) (h : 0 < left) where
     next-of : g ≡ nextGroup (rowsOf (depsOf s)) (committedWord s) ran
     next-of =
         found
@@ -172,8 +152,6 @@ module _ {s : Server} {limit ran : ℕ} {n : Server} {left : ℕ} (go : Going s 
           count = λ l. many ∙ ap (λ (x : ℕ). x + size g) (go .count h) ∙ sym added;
           long = ap (λ (x : Server). length (x .records)) all ∙ group-long n g ∙ go .long;
           keys = ap (λ (x : Server). length (x .counters .list)) e ∙ over-keys n g 64 ∙ go .keys;
-          id = ap (λ (x : Server). x .id) all ∙ group-id n g ∙ go .id;
-          more = omega (arith, many, go .more);
         }
       where
         added : size (union ran g) ≡ size ran + size g
@@ -187,28 +165,3 @@ module _ {s : Server} {limit ran : ℕ} {n : Server} {left : ℕ} (go : Going s 
     unfolding size
     going-room u l i m e =
         omega (arith, ap (λ (x : Server). x .log .count) e, over-count n g u, go .count h, counted-less (has g) u 64 l i, room)
-
-  -- the numbers of g below u have run
-  module _ (g u : ℕ) (m : Server) (e : m ≡ over runOne n g u) where
-    pub going-shard : shard s ≡ shard m
-    going-shard = sym (ap (λ (x : Server). shard x) e ∙ ap shardOf (over-id n g u ∙ go .id))
-
-    pub going-keys : length (m .counters .list) ≡ 16
-    going-keys = ap (λ (x : Server). length (x .counters .list)) e ∙ over-keys n g u ∙ go .keys
-
--- ---- one number
-
--- the pieces of one number below i have run
-module _ (ps : Pieces) (k : ℕ) (c : Counters) (i : ℕ) (x : Executed) (e : x ≡ iter (runEntry ps k) (begun c) i) where
-  -- there are at most i results
-  pub part-count : x .values .count ≤ i
-  part-count = omega (arith, ap (λ (y : Executed). y .values .count) e, count-after ps k i (begun c) refl, count-le (onShard ps k) i)
-
-  pub part-keys : length (c .list) ≡ 16 → length (x .counters .list) ≡ 16
-  part-keys l = ap (λ (y : Executed). length (y .counters .list)) e ∙ length-after ps k (begun c) i ∙ l
-
--- the stores for one number are its run
-pub one-stored : (n : Server) (u k : ℕ) → k ≡ shard n → (c : Counters) (r : Values) → record { counters = c; values = r } ≡ execute (recordAt n u .pieces) k (n .counters)
-    → record { id = n .id; records = set (n .records) u (withResults r (recordAt n u)); counters = c; log = append (n .log) u } ≡ runOne n u
-unfolding runOne
-one-stored n u k p c r q = ap (stored n u) (q ∙ ap (λ (x : ℕ). execute (recordAt n u .pieces) x (n .counters)) p)

@@ -1,4 +1,4 @@
--- Document 01, "Running": what a run and the wanted set ask of the records, each in one pass over them.
+-- Document 01, "Running": what a run and the wanted set ask of the records.
 use Prim.Native.Nat.{ℕ}
 use Rattle.masks.specs.Bits.{without}
 use Rattle.rules.specs.Choice.{_if_else_}

@@ -2,7 +2,6 @@
 ghost use mathlib.Core.Path.{_≡_};
 ghost use Rattle.counters.specs.Effects.{noCounters};
 ghost use Rattle.server.specs.Held.{freshRecord};
-ghost use Rattle.server.specs.Host.{freshServer};
 use counters::Counter;
 use counters::Counters;
 use messages::blanks::no_pieces;
@@ -11,9 +10,7 @@ use rules::MaybeSet;
 use rules::MaybeVote;
 use rules::MaybeWord;
 use rules::Set;
-use server::Log;
 use server::Record;
-use server::Server;
 
 // The record of a number of which nothing is held.
 pub fn fresh_record() -> Record
@@ -51,22 +48,4 @@ pub fn no_counters() -> Counters
 {
     let zero = Counter { value: 0 };
     Counters { list: [zero; 16] }
-}
-
-// The server `id` as it is at first.
-pub fn fresh_server(id: u32) -> Server
-    ensures { λ r. ⌜ r ≡ freshServer id ⌝ }
-{
-    let none = fresh_record();
-    let counters = no_counters();
-    let log = Log {
-        list: [0u32; 64],
-        count: 0,
-    };
-    Server {
-        id,
-        records: [none; 64],
-        counters,
-        log,
-    }
 }

@@ -24,7 +24,6 @@ use Rattle.server.specs.Held.{recordAt, shard}
 use Rattle.server.specs.Form.{formed}
 use Rattle.server.specs.Refusals.{notTaken, untouched, otherPieces, otherSet, refusal}
 use Rattle.server.specs.Serve.{cameEarlier, arrivalSet, fixes, arrivalFor, refused, taken, serve}
-use Rattle.server_step.specs.declared.Considered.{Considered}
 use Rattle.server_step.specs.OneStore.{firstRefusal, refusalBy, changeBy, looked, placeOf, consideredAt, considered, stored}
 
 -- ---- who came earlier, by keys
@@ -68,11 +67,6 @@ refusal-is s m = refl
 pub place-lt : (t i : ℕ) → i ≡ placeOf t → i < 64
 unfolding placeOf
 place-lt t i p = rw p (⊎-elim (λ e. rw e (omega arith)) (λ e. rw e (omega (arith, leb-false 64 t e))) (true-or-false (leb 64 t)))
-
--- the place that a step stores at
-pub place-is : (s : Server) (m : Message) (c : Considered) → c ≡ considered s m → c .place ≡ placeOf (m .t)
-unfolding considered consideredAt
-place-is s m c e = ap (λ (x : Considered). x .place) e
 
 pub looked-le : (b : Bool) (n : ℕ) → n ≡ looked b → n ≤ 64
 unfolding looked
