@@ -20,7 +20,7 @@ LIBRARY = [
     ('denote.Triple.Statement', 'Contract Triple'), ('denote.Triple.Call', 'calls-at'), ('denote.Triple.Clauses', 'ensured lasts'),
     ('denote.Triple.Entry', 'onEntry'), ('denote.Triple.Spec', 'Meets tripleOf'), ('denote.Triple.Table', 'entered cited'),
     ('denote.Triple.Walked', 'says needs Stays stay-ref stay-dropped gave-slice goes-gave-slice walkOf AllGo goes-dropped goes-ref Walks ends-at walked walk-meets'), ('denote.Exit', 'yes'),
-    ('Rattle.lent.proofs.Elements', 'rawArray Lies Are in-word put-in store-elem store-part look-elem elem-is elem-part with-field look-field unraw'), ('Rattle.lent.proofs.Counting', 'Count Fewer falls one-more goes-on still test-on test-off fits-next after'),
+    ('Rattle.lent.proofs.Elements', 'rawArray Lies Are in-word put-in store-elem store-part look-elem elem-is elem-part with-field look-field unraw as-raw'), ('Rattle.lent.proofs.Counting', 'Count Fewer falls one-more goes-on still test-on test-off fits-next after'),
     ('Rattle.lent.proofs.Lending', 'lends-cell back-cell lends-cell-mut back-cell-mut'), ('Rattle.lent.proofs.Values', 'spelled-as is-spelled is-true is-false'),
     ('Rattle.masks.specs.Folds', 'iter'),
 ]

@@ -1,4 +1,4 @@
-"""Reads and stores: of the lent state, of a field of it, of an element of an array that is a field, and of a field of such an element."""
+"""Reads and stores: of the lent state, of a field of it or of a field of a field, of an element of an array that is one, and of a field of such an element."""
 from lent.held import Value, pointer
 from lent.kinds import Number
 from lent.mir import Literal
@@ -42,14 +42,16 @@ class Part:
 
 def find(part, of, behind=True):
     """How the cell of a field is found within that of its struct, which may lie behind a reference."""
+    if part.many and not behind and not part.scalar:
+        return f'(as-raw ! {{τ = tyArray {part.kind.mir} {part.many}}} (sub ! {part.k} {{τ = tyArray {part.kind.mir} {part.many}}} {{d = {part.start}}} ({part.tag}-lies .0) {of}))'
     if part.many:
         return f'(sub ! {part.k} {{τ = rawArray {part.kind.mir} {part.many}}} {{d = {part.start}}} ({part.tag}-lies .{int(behind)}) {of})'
     raw = part.kind.mir if part.scalar or not behind else f'rawTy {part.kind.mir}'
     return f'(sub ! {part.k} {{τ = {raw}}} {{d = {part.start}}} refl {of})'
 
 
-def way(part):
-    return f'(fld ! {{τ = {part.kind.mir}}} {{d = {part.start}}} refl (stop !))'
+def way(part, to='(stop !)'):
+    return f'(fld ! {{τ = {part.kind.mir}}} {{d = {part.start}}} refl {to})'
 
 
 class Spot:
@@ -62,7 +64,12 @@ class Spot:
         self.of_state = of_state
         self.struct = walk.state if of_state else walk.local[st.base].kind
         self.term, self.fact = (walk.cur, walk.was) if of_state else (walk.local[st.base].term, walk.local[st.base].fact)
-        self.field = Part(walk, self.struct, st.fields[0]) if st.fields else None
+        self.outer = []
+        for k in st.fields[:-1]:
+            part = Part(walk, self.struct, k)
+            self.outer.append((part, self.struct, self.term, self.fact))
+            self.struct, self.term, self.fact = part.kind, f'({self.term} .{part.name})', f'({part.tag}-is {self.term} {self.fact})'
+        self.field = Part(walk, self.struct, st.fields[-1]) if st.fields else None
         self.inner = None
         if st.index is not None:
             self.nothing = walk.cite(*nothing_of(self.field.kind.denot, self.field.kind.crate)) if hasattr(self.field.kind, 'path') else '0'
@@ -71,11 +78,16 @@ class Spot:
 
     def way(self, to):
         """The place that a statement names: behind the reference, or within the local."""
+        for part, *_ in reversed(self.outer):
+            to = way(part, to)
         return f'(hop ! (look ! {self.walk.held.at("l1")} refl) {to})' if self.of_state else to
 
     def found(self):
         """How the cell of the field is found."""
-        return find(self.field, '(whole !)', self.of_state)
+        cell = '(whole !)'
+        for part in [part for part, *_ in self.outer] + [self.field]:
+            cell = find(part, cell, self.of_state)
+        return cell
 
     def reach(self):
         """The steps to where the element begins."""
@@ -112,8 +124,10 @@ class Spot:
 
     def with_array(self):
         """The state or the struct with the machine value z in the place of its array."""
-        whole = f'(with-field {self.struct.val(self.term)} {self.field.k} z)'
-        return f'‵ (cellAt fullShare ({self.struct.row} .mir) ({whole} ∷ []) b o)' if self.of_state else f'‵ (fat fullShare {self.struct.mir} {self.entry} zero {whole})'
+        struct, whole = self.struct, f'(with-field {self.struct.val(self.term)} {self.field.k} z)'
+        for part, struct, term, _ in reversed(self.outer):
+            whole = f'(with-field {struct.val(term)} {part.k} {whole})'
+        return f'‵ (cellAt fullShare ({struct.row} .mir) ({whole} ∷ []) b o)' if self.of_state else f'‵ (fat fullShare {struct.mir} {self.entry} zero {whole})'
 
     def in_element(self):
         """How the cell of the element is found."""
@@ -183,6 +197,9 @@ def store(walk, st):
         new, fact = f'(with-{f.tag} {spot.term} {spot.i} {y})', f'(made-{f.tag} {spot.term} {spot.i} {y} {spot.fact} {is_y})'
     if f:
         walk.stored(f)
+    for part, _, term, was in reversed(spot.outer):
+        walk.stored(part)
+        new, fact = f'(with-{part.tag} {term} {new})', f'(made-{part.tag} {term} {new} {was} {fact})'
     if spot.of_state:
         walk.state_becomes(walk.tag(), new, new, 'refl', fact)
     else:

@@ -161,8 +161,10 @@ def laws(crate):
 
 
 def nothing_of(struct, crate):
-    """The definition of the element that stands where a list has none: `noRecord` of a `Record`."""
-    for file in sorted(pathlib.Path('crates', crate, 'specs').glob('*.antt')):
-        if re.search(rf'(?m)^(?:abbrev|unfoldable) pub no{struct} :', file.read_text(encoding='utf-8')):
-            return f'Rattle.{crate}.specs.{file.stem}', f'no{struct}'
-    raise SystemExit(f'the specs of {crate} have no no{struct}')
+    """The definition of the element that stands where a list has none: `noRecord` of a `Record`, or else the one value of the type that is named."""
+    for name in (f'no{struct}', r'\w+'):
+        for file in sorted(pathlib.Path('crates', crate, 'specs').glob('*.antt')):
+            found = re.search(rf'(?m)^(?:abbrev|unfoldable) pub ({name}) : {struct}$', file.read_text(encoding='utf-8'))
+            if found:
+                return f'Rattle.{crate}.specs.{file.stem}', found.group(1)
+    raise SystemExit(f'the specs of {crate} name no {struct}')

@@ -11,7 +11,7 @@ from lent.places import read, store
 from lent.sources import Contract, hyphens
 from public_functions import public_functions
 
-RESERVED = {'a', 'at', 'b', 'e', 'i', 'is', 'o', 'q', 's', 'u', 'v', 'x', 'f', 'l', 'h', 'was', 'req'}
+RESERVED = {'a', 'at', 'b', 'e', 'i', 'is', 'k', 'o', 'q', 'r', 's', 'u', 'v', 'x', 'f', 'l', 'h', 'was', 'req'}
 
 
 def lent_functions():

@@ -1,7 +1,7 @@
 -- One element of an array that is a field of a lent struct: what a walk over the read or the store of it needs, whatever the struct and the element's type are.
 --     Lies             where an array lies that is a field of a struct, in the struct and in its raw form. The numbers are written at each use: those that antt finds are long terms
 --     elem             element k of an array's cell that a `Part` finds, as `Types/Part.antt`'s `sub` is for a field of a struct's
---     unraw            what lies behind a reference is a cell at the raw form of its type: it is found as a cell at the type
+--     unraw, as-raw    what lies behind a reference is a cell at the raw form of its type: it is found as a cell at the type; and what lies in a local the other way round
 --     spelled          the machine values of an array's elements
 --     put-in           what the array with x at k owes, from what the array owes and x's relation
 --     in-word          the number of bytes before element k is a number of 64 bits
@@ -71,16 +71,24 @@ module _ {M : Type 1} (𝓤 : URA M) (H : Heap 𝓤) (A : Atoms 𝓤) (W : Given
       use2 W (raw (elems 𝓤 H q τ b (o + size τ) (set us k w))) (apply∗ 𝓤 (H .at q τ b (place (size τ) (o + size τ) k) w) (elems 𝓤 H q τ b (o + size τ) (set us k w))) $ move ! (1 ∷ 0 ∷ []) $ done !)
 
 module _ {M : Type 1} {𝓤 : URA M} {H : Heap 𝓤} {A : Atoms 𝓤} {K : Type 0} {W : Given 𝓤 H A} where
-  pub unraw : K → {i : Item 𝓤} {q : Share} {τ : Ty} {b o : ℕ} {v : Val} {back : Val → Item 𝓤} → Part K W i q (rawTy τ) b o v back → Part K W i q τ b o v back
-  unraw t {i} {q} {τ} {b} {o} {v} {back} p = record {
-    out = qed W (i ∷ []) ∵ use1 W (‵ (fat q (rawTy τ) b o v) ⊛ raw (all 𝓤 (Way 𝓤 H A q (rawTy τ) b o back))) (p .out) $ split ! $
-        use1 W (‵ (fat q τ b o v)) (W .laws .raw-at q τ b o v) $ frame ! $
+  -- a cell that is one of another type too, and the other way round
+  also : {i : Item 𝓤} {q : Share} {σ τ : Ty} {b o : ℕ} {v : Val} {back : Val → Item 𝓤} → ((u : Val) → ent 𝓤 (H .at q σ b o u) (H .at q τ b o u)) → ((u : Val) → ent 𝓤 (H .at q τ b o u) (H .at q σ b o u))
+      → Part K W i q σ b o v back → Part K W i q τ b o v back
+  also {i} {q} {σ} {τ} {b} {o} {v} {back} to from p = record {
+    out = qed W (i ∷ []) ∵ use1 W (‵ (fat q σ b o v) ⊛ raw (all 𝓤 (Way 𝓤 H A q σ b o back))) (p .out) $ split ! $
+        use1 W (‵ (fat q τ b o v)) (to v) $ frame ! $
         each ! (Way 𝓤 H A q τ b o back) (λ u. assume {P = mean 𝓤 H A (back u)} ! (‵ (fat q τ b o u)) $
-        use1 W (‵ (fat q (rawTy τ) b o u)) (W .laws .at-raw q τ b o u) $ move ! (1 ∷ []) $
-        use1 W (raw (Way 𝓤 H A q (rawTy τ) b o back u)) (allE 𝓤 (Way 𝓤 H A q (rawTy τ) b o back) u) $ move ! (1 ∷ 0 ∷ []) $
-        use2 W (back u) (apply∗ 𝓤 (H .at q (rawTy τ) b o u) (mean 𝓤 H A (back u))) $ done !);
+        use1 W (‵ (fat q σ b o u)) (from u) $ move ! (1 ∷ []) $
+        use1 W (raw (Way 𝓤 H A q σ b o back u)) (allE 𝓤 (Way 𝓤 H A q σ b o back) u) $ move ! (1 ∷ 0 ∷ []) $
+        use2 W (back u) (apply∗ 𝓤 (H .at q σ b o u) (mean 𝓤 H A (back u))) $ done !);
     same = p .same;
   }
+
+  pub unraw : K → {i : Item 𝓤} {q : Share} {τ : Ty} {b o : ℕ} {v : Val} {back : Val → Item 𝓤} → Part K W i q (rawTy τ) b o v back → Part K W i q τ b o v back
+  unraw t {i} {q} {τ} {b} {o} = also (λ u. W .laws .raw-at q τ b o u) (λ u. W .laws .at-raw q τ b o u)
+
+  pub as-raw : K → {i : Item 𝓤} {q : Share} {τ : Ty} {b o : ℕ} {v : Val} {back : Val → Item 𝓤} → Part K W i q τ b o v back → Part K W i q (rawTy τ) b o v back
+  as-raw t {i} {q} {τ} {b} {o} = also (λ u. W .laws .at-raw q τ b o u) (λ u. W .laws .raw-at q τ b o u)
 
   -- it lies k elements after the array's beginning
   pub elem : K → {i : Item 𝓤} {q : Share} {τ : Ty} {n b o : ℕ} {back : Val → Item 𝓤} (us : List Val) (k : ℕ) → length us ≡ n → k < n

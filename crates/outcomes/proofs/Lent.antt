@@ -7,7 +7,6 @@ use mathlib.Core.List.{List}
 use Rattle.door.specs.declared.Answer.{Answer as door·Answer}
 use Rattle.server_step.specs.declared.Considered.{Considered}
 use Rattle.door.specs.declared.Counted.{Counted}
-use Rattle.counters.specs.declared.Counters.{Counters}
 use Rattle.wire.specs.declared.Decoded.{Decoded}
 use Rattle.drive.specs.declared.Drive.{Drive}
 use Rattle.door.specs.declared.Due.{Due}
@@ -22,6 +21,7 @@ use Rattle.rules.specs.declared.Pieces.{Pieces}
 use Rattle.server_lent.specs.declared.running.Plan.{Plan}
 use Rattle.door.specs.declared.Reading.{Reading}
 use Rattle.server.specs.declared.Server.{Server}
+use Rattle.rules.specs.declared.Values.{Values}
 use Rattle.server_lent.specs.declared.planning.Waiting.{Waiting}
 use Rattle.server.specs.declared.Wants.{Wants}
 use Rattle.door.specs.Exchange.{heardOf, post, take, takeReply}
@@ -34,7 +34,7 @@ use Rattle.server.specs.Host.{fresh, wanted}
 use Rattle.server.specs.Run.{run, runAll}
 use Rattle.server_lent.specs.First.{recordsFresh}
 use Rattle.server_lent.specs.InPlace.{earlierIn, formBegun, formIn}
-use Rattle.server_lent.specs.Listed.{fewOf, ranListed, ranPlanned}
+use Rattle.server_lent.specs.Listed.{fewOf, ranListed, ranPieces, ranPlanned, withCounters}
 use Rattle.server_lent.specs.Planning.{waitingIn}
 use Rattle.server_lent.specs.Wanting.{namedIn}
 use Rattle.server_run.specs.Limited.{ranUpTo}
@@ -62,8 +62,11 @@ server-lent·form·form-in s a0 many r r₂ m₁ m₂ = m₁ ∙ sym m₂
 pub server-lent·planning·waiting-in : (s : Server) (word : ℕ) (many : ℕ) (r r₂ : Waiting) → (r ≡ waitingIn (s) word many) → (r₂ ≡ waitingIn (s) word many) → r ≡ r₂
 server-lent·planning·waiting-in s word many r r₂ m₁ m₂ = m₁ ∙ sym m₂
 
-pub server-lent·running·run-listed : (s : Server) (p : Plan) (c0 : Counters) (many : ℕ) (r r₂ : Counters) (s′ s′₂ : Server) → ((r ≡ ranListed p (s) c0 many .counters) × (s′ ≡ ranListed p (s) c0 many .server)) → ((r₂ ≡ ranListed p (s) c0 many .counters) × (s′₂ ≡ ranListed p (s) c0 many .server)) → (r ≡ r₂) × (s′ ≡ s′₂)
-server-lent·running·run-listed s p c0 many r r₂ s′ s′₂ m₁ m₂ = (m₁ .0 ∙ sym (m₂ .0), m₁ .1 ∙ sym (m₂ .1))
+pub server-lent·running·run-pieces : (s : Server) (ps : Pieces) (k : ℕ) (many : ℕ) (r r₂ : Values) (s′ s′₂ : Server) → ((r ≡ ranPieces ps k (s .counters) many .values) × (s′ ≡ withCounters (s) (ranPieces ps k (s .counters) many .counters))) → ((r₂ ≡ ranPieces ps k (s .counters) many .values) × (s′₂ ≡ withCounters (s) (ranPieces ps k (s .counters) many .counters))) → (r ≡ r₂) × (s′ ≡ s′₂)
+server-lent·running·run-pieces s ps k many r r₂ s′ s′₂ m₁ m₂ = (m₁ .0 ∙ sym (m₂ .0), m₁ .1 ∙ sym (m₂ .1))
+
+pub server-lent·running·run-listed : (s : Server) (p : Plan) (many : ℕ) (r r₂ : ℕ) (s′ s′₂ : Server) → ((r ≡ many) × (s′ ≡ ranListed p (s) many)) → ((r₂ ≡ many) × (s′₂ ≡ ranListed p (s) many)) → (r ≡ r₂) × (s′ ≡ s′₂)
+server-lent·running·run-listed s p many r r₂ s′ s′₂ m₁ m₂ = (m₁ .0 ∙ sym (m₂ .0), m₁ .1 ∙ sym (m₂ .1))
 
 pub server-lent·running·run-planned : (s : Server) (p : Plan) (log : Log) (many : ℕ) (r r₂ : ℕ) (s′ s′₂ : Server) → ((r ≡ fewOf many) × (s′ ≡ ranPlanned p log many (s))) → ((r₂ ≡ fewOf many) × (s′₂ ≡ ranPlanned p log many (s))) → (r ≡ r₂) × (s′ ≡ s′₂)
 server-lent·running·run-planned s p log many r r₂ s′ s′₂ m₁ m₂ = (m₁ .0 ∙ sym (m₂ .0), m₁ .1 ∙ sym (m₂ .1))

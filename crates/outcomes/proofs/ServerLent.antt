@@ -19,9 +19,10 @@ use Rattle.server_lent.proofs.planning.planned_plan.Reads as server-lent·plann
 use Rattle.server_lent.proofs.planning.planned_end.Reads as server-lent·planning·planned-end-contract
 use Rattle.server_lent.proofs.planning.planned_many.Reads as server-lent·planning·planned-many-contract
 use Rattle.server_lent.proofs.running.spot.Reads as server-lent·running·spot-contract
-use Rattle.server_lent.proofs.running.executed.Reads as server-lent·running·executed-contract
-use Rattle.server_lent.proofs.running.ran_counters.Reads as server-lent·running·ran-counters-contract
-use Rattle.server_lent.proofs.running.ran_values.Reads as server-lent·running·ran-values-contract
+use Rattle.server_lent.proofs.running.left_by.Reads as server-lent·running·left-by-contract
+use Rattle.server_lent.proofs.running.result_by.Reads as server-lent·running·result-by-contract
+use Rattle.server_lent.proofs.running.results_by.Reads as server-lent·running·results-by-contract
+use Rattle.server_lent.proofs.running.result_place.Reads as server-lent·running·result-place-contract
 use Rattle.server_lent.proofs.running.few.Reads as server-lent·running·few-contract
 use Rattle.server_lent.proofs.stepping.earlier_turn.Reads as server-lent·stepping·earlier-turn-contract
 use Rattle.server_lent.proofs.stepping.place_for.Reads as server-lent·stepping·place-for-contract
@@ -87,14 +88,17 @@ server-lent·planning·planned-many κ a x y e e′ p q = p ∙ sym q
 pub server-lent·running·spot : Answers server-lent·running·spot-contract.Post
 server-lent·running·spot κ a x y e e′ p q = p ∙ sym q
 
-pub server-lent·running·executed : Answers server-lent·running·executed-contract.Post
-server-lent·running·executed κ a x y e e′ p q = p ∙ sym q
+pub server-lent·running·left-by : Answers server-lent·running·left-by-contract.Post
+server-lent·running·left-by κ a x y e e′ p q = p ∙ sym q
 
-pub server-lent·running·ran-counters : Answers server-lent·running·ran-counters-contract.Post
-server-lent·running·ran-counters κ a x y e e′ p q = p ∙ sym q
+pub server-lent·running·result-by : Answers server-lent·running·result-by-contract.Post
+server-lent·running·result-by κ a x y e e′ p q = p ∙ sym q
 
-pub server-lent·running·ran-values : Answers server-lent·running·ran-values-contract.Post
-server-lent·running·ran-values κ a x y e e′ p q = p ∙ sym q
+pub server-lent·running·results-by : Answers server-lent·running·results-by-contract.Post
+server-lent·running·results-by κ a x y e e′ p q = p ∙ sym q
+
+pub server-lent·running·result-place : Answers server-lent·running·result-place-contract.Post
+server-lent·running·result-place κ a x y e e′ p q = p ∙ sym q
 
 pub server-lent·running·few : Answers server-lent·running·few-contract.Post
 server-lent·running·few κ a x y e e′ p q = p ∙ sym q

@@ -13,11 +13,14 @@ use Rattle.masks.specs.Folds.{iter, over}
 use Rattle.rules.specs.Cluster.{shardOf}
 use Rattle.server.specs.declared.Log.{Log}
 use Rattle.server.specs.declared.Server.{Server}
-use Rattle.server.specs.Held.{recordAt, shard, entryAt, append}
-use Rattle.server.specs.Run.{nextRun, runOne, runGroup, turns}
+use Rattle.rules.specs.Pieces.{used}
+use Rattle.counters.specs.Effects.{execute}
+use Rattle.counters.proofs.PerKey.{counters-length}
+use Rattle.server.specs.Held.{recordAt, putRecord, shard, entryAt, append}
+use Rattle.server.specs.Run.{withResults, nextRun, runOne, runGroup, turns}
 use Rattle.server_lent.specs.declared.running.Plan.{Plan}
-use Rattle.server_lent.specs.Listed.{Listed, listedAt, ranAt, ranListed, fewOf, ranPlanned}
-use Rattle.server_lent.proofs.RunInPlace.{few-all}
+use Rattle.server_lent.specs.Listed.{ranPieces, withCounters, listedAt, ranAt, ranListed, fewOf, ranPlanned}
+use Rattle.server_lent.proofs.RunInPlace.{pieces-run, few-all}
 
 -- numbers run one after the other
 abbrev pub runs : List ℕ → Server → Server
@@ -114,15 +117,25 @@ unfolding iter runOne
 along-id us s zero = refl
 along-id us s (suc n) = along-id us s n
 
-module _ (p : Plan) (us : List ℕ) (s : Server) (here : p .shard ≡ shard s) where
-  abbrev reached : ℕ → Listed
-  reached n = record { server = record { id = s .id; records = along us s n .records; counters = s .counters; log = s .log }; counters = along us s n .counters }
+along-keys : (us : List ℕ) (s : Server) (n : ℕ) → length (along us s n .counters .list) ≡ length (s .counters .list)
+unfolding iter runOne
+along-keys us s zero = refl
+along-keys us s (suc n) = counters-length _ _ (along us s n .counters) ∙ along-keys us s n
+
+module _ (p : Plan) (us : List ℕ) (s : Server) (here : p .shard ≡ shard s) (keys : length (s .counters .list) ≡ 16) where
+  abbrev reached : ℕ → Server
+  reached n = record { id = s .id; records = along us s n .records; counters = along us s n .counters; log = s .log }
 
   one : (n : ℕ) → listedAt p n ≡ getD us n 0 → ranAt p n (reached n) ≡ reached (suc n)
   unfolding iter runOne
-  one n at = let own : p .shard ≡ shard (along us s n) = here ∙ ap shardOf (sym (along-id us s n)) in rw (at, own)
+  one n at =
+      let own : p .shard ≡ shard (along us s n) = here ∙ ap shardOf (sym (along-id us s n)) in
+      let x = recordAt (reached n) (listedAt p n) in
+      let all : ranPieces (x .pieces) (p .shard) (along us s n .counters) (used (x .pieces .count)) ≡ execute (x .pieces) (p .shard) (along us s n .counters) =
+      pieces-run (x .pieces) (p .shard) (along us s n .counters) (along-keys us s n ∙ keys) in
+      (λ j. putRecord (withCounters (reached n) (all j .counters)) (listedAt p n) (withResults (all j .values) x)) ∙ rw (at, own)
 
-  listed-along : (n : ℕ) → ((t : ℕ) → t < n → listedAt p t ≡ getD us t 0) → ranListed p s (s .counters) n ≡ reached n
+  listed-along : (n : ℕ) → ((t : ℕ) → t < n → listedAt p t ≡ getD us t 0) → ranListed p s n ≡ reached n
   unfolding ranListed iter
   listed-along zero at = refl
   listed-along (suc n) at = ap (ranAt p n) (listed-along n (λ t l. at t (omega (arith, l)))) ∙ one n (at n (omega arith))
@@ -131,8 +144,8 @@ module _ (p : Plan) (us : List ℕ) (s : Server) (here : p .shard ≡ shard s) w
   pub plan-runs : (many : ℕ) → many ≡ length us → many ≤ 64 → ((t : ℕ) → t < many → listedAt p t ≡ getD us t 0) → ranPlanned p (runs us s .log) many s ≡ runs us s
   unfolding ranPlanned
   plan-runs many e l at =
-      let all : ranListed p s (s .counters) (fewOf many) ≡ reached (length us) = ap (ranListed p s (s .counters)) (few-all many l ∙ e) ∙ listed-along (length us) (subst (λ (k : ℕ). (t : ℕ) → t < k → listedAt p t ≡ getD us t 0) e at) in
+      let all : ranListed p s (fewOf many) ≡ reached (length us) = ap (ranListed p s) (few-all many l ∙ e) ∙ listed-along (length us) (subst (λ (k : ℕ). (t : ℕ) → t < k → listedAt p t ≡ getD us t 0) e at) in
       let end : along us s (length us) ≡ runs us s = sym (runs-along us s) in
-      (λ j. record { id = all j .server .id; records = all j .server .records; counters = all j .counters; log = runs us s .log })
+      (λ j. record { id = all j .id; records = all j .records; counters = all j .counters; log = runs us s .log })
       ∙ (λ j. record { id = sym (along-id us s (length us)) j; records = along us s (length us) .records; counters = along us s (length us) .counters; log = runs us s .log })
       ∙ (λ j. record { id = end j .id; records = end j .records; counters = end j .counters; log = runs us s .log })

@@ -156,11 +156,11 @@ module _ (s : Server) (limit : ℕ) (records : length (s .records) ≡ 64) (keys
       rw (near, at) (number-place (getD us t 0) (one-of us t (order-numbers most s) l))
 
   ran-is : (length us ≡ 0) ⊎ (s .log .count + length us ≤ 64) → ranPlanned (plan .plan) (runs us s .log) (plan .many) s ≡ runs us s
-  ran-is (inl e) = plan-runs (plan .plan) us s shard-is (plan .many) many-is (omega (arith, many-is, e)) (λ t l. absurd (omega (arith, l, many-is, e)))
+  ran-is (inl e) = plan-runs (plan .plan) us s shard-is keys (plan .many) many-is (omega (arith, many-is, e)) (λ t l. absurd (omega (arith, l, many-is, e)))
     where
       shard-is : plan .plan .shard ≡ shard s
       shard-is = unfold plannedBy in refl
-  ran-is (inr r) = plan-runs (plan .plan) us s shard-is (plan .many) many-is (omega (arith, many-is, r)) (λ t l. listed-is r t (omega (arith, l, many-is)))
+  ran-is (inr r) = plan-runs (plan .plan) us s shard-is keys (plan .many) many-is (omega (arith, many-is, r)) (λ t l. listed-is r t (omega (arith, l, many-is)))
     where
       shard-is : plan .plan .shard ≡ shard s
       shard-is = unfold plannedBy in refl

@@ -1,17 +1,63 @@
--- Running, as it is computed on a lent server: the numbers of a plan run one after the other, and the counters go from one to the next.
+-- Running, as it is computed on a lent server: the numbers of a plan run one after the other, and the pieces of each, every counter in its place.
 use Prim.Native.Nat.{ℕ, _+_}
-use lib.Dec.{ltb}
-use lib.ListN.{getD}
+use lib.Dec.{eqb, ltb}
+use lib.ListN.{getD, set}
 use Rattle.masks.specs.Folds.{iter}
 use Rattle.rules.specs.Choice.{_if_else_}
+use Rattle.rules.specs.Cluster.{PIECES}
+use Rattle.rules.specs.Pieces.{pieceAt, used}
+use Rattle.rules.specs.Values.{noValue, noValues}
+use Rattle.rules.specs.declared.Piece.{Piece}
+use Rattle.rules.specs.declared.Pieces.{Pieces}
+use Rattle.rules.specs.declared.Value.{Value}
+use Rattle.counters.specs.declared.Counter.{Counter}
 use Rattle.counters.specs.declared.Counters.{Counters}
-use Rattle.counters.specs.Effects.{execute}
+use Rattle.counters.specs.declared.Executed.{Executed}
+use Rattle.counters.specs.Effects.{zeroed, withCounter}
+use Rattle.counters.specs.InPlace.{runAt}
+use Rattle.counters.specs.InPlace as keys
 use Rattle.server.specs.declared.Log.{Log}
 use Rattle.server.specs.declared.Server.{Server}
 use Rattle.server.specs.Held.{recordAt, putRecord}
 use Rattle.server.specs.Run.{withResults}
 use Rattle.server_step.specs.OneStore.{placeOf}
 use Rattle.server_lent.specs.declared.running.Plan.{Plan}
+
+-- ---- the pieces of a number
+
+-- what a piece leaves where its counter stands: on another shard than k the same
+unfoldable pub leftBy : Piece → ℕ → Counter → Counter
+leftBy p k there = runAt p there .counter if eqb (p .shard) k else there
+
+-- what it leaves at the next place of the results
+unfoldable pub resultBy : Piece → ℕ → Counter → Value → Value
+resultBy p k there old = runAt p there .result if eqb (p .shard) k else old
+
+unfoldable pub resultsBy : Piece → (k n : ℕ) → ℕ
+resultsBy p k n = (n + 1 if ltb n PIECES else n) if eqb (p .shard) k else n
+
+unfoldable pub resultPlace : ℕ → ℕ
+resultPlace n = n if ltb n PIECES else 0
+
+abbrev pub pieceTurn : Pieces → (k i : ℕ) → Executed → Executed
+pieceTurn ps k i e =
+    let p = pieceAt ps i in
+    let at = keys.placeOf (p .key) in
+    let there = getD (e .counters .list) at zeroed in
+    let n = e .values .count in
+    record {
+      counters = withCounter (e .counters) at (leftBy p k there);
+      values = record { list = set (e .values .list) (resultPlace n) (resultBy p k there (getD (e .values .list) (resultPlace n) noValue)); count = resultsBy p k n };
+    }
+
+-- the first n pieces
+unfoldable pub ranPieces : Pieces → ℕ → Counters → ℕ → Executed
+ranPieces ps k c n = iter (pieceTurn ps k) (record { counters = c; values = noValues }) n
+
+abbrev pub withCounters : Server → Counters → Server
+withCounters s c = record { id = s .id; records = s .records; counters = c; log = s .log }
+
+-- ---- the numbers of a plan
 
 -- where the plan has its number t, or any place where it has none
 unfoldable pub spotOf : (first t : ℕ) → ℕ
@@ -21,24 +67,20 @@ spotOf first t = first + t if ltb (first + t) 64 else 0
 abbrev pub listedAt : Plan → ℕ → ℕ
 listedAt p t = placeOf (getD (p .list) (spotOf (p .first) t) 0)
 
-pub record Listed : Type 0 where
-  pub server : Server
-  pub counters : Counters
+abbrev pub ranAt : Plan → ℕ → Server → Server
+ranAt p t s =
+    let x = recordAt s (listedAt p t) in
+    let o = ranPieces (x .pieces) (p .shard) (s .counters) (used (x .pieces .count)) in
+    putRecord (withCounters s (o .counters)) (listedAt p t) (withResults (o .values) x)
 
-abbrev pub ranAt : Plan → ℕ → Listed → Listed
-ranAt p t a =
-    let x = recordAt (a .server) (listedAt p t) in
-    let o = execute (x .pieces) (p .shard) (a .counters) in
-    record { server = putRecord (a .server) (listedAt p t) (withResults (o .values) x); counters = o .counters }
-
-unfoldable pub ranListed : Plan → Server → Counters → ℕ → Listed
-ranListed p s c n = iter (ranAt p) (record { server = s; counters = c }) n
+unfoldable pub ranListed : Plan → Server → ℕ → Server
+ranListed p s n = iter (ranAt p) s n
 
 unfoldable pub fewOf : ℕ → ℕ
 fewOf many = many if ltb many 64 else 64
 
--- the plan has run, and the counters and the log are stored
+-- the plan has run, and the log is stored
 unfoldable pub ranPlanned : Plan → Log → ℕ → Server → Server
 ranPlanned p l many s =
-    let z = ranListed p s (s .counters) (fewOf many) in
-    record { id = z .server .id; records = z .server .records; counters = z .counters; log = l }
+    let z = ranListed p s (fewOf many) in
+    record { id = z .id; records = z .records; counters = z .counters; log = l }

@@ -1,12 +1,12 @@
-// Runs on a lent server: of each number that runs the pieces are read, and what they leave is stored, in their place.
+// Runs on a lent server: of each number that runs the pieces are read, and their counters, their results and the flag stored, each in its place.
 ghost use mathlib.Core.Path.{_≡_};
 ghost use Prim.Native.Nat.{_<_, _≤_};
-ghost use Rattle.counters.specs.Effects.{execute};
-ghost use Rattle.server_lent.specs.Listed.{spotOf, ranListed, fewOf, ranPlanned};
-use counters::Counters;
-use counters::Executed;
+ghost use Rattle.server_lent.specs.Listed.{leftBy, resultBy, resultsBy, resultPlace, ranPieces, withCounters, spotOf, ranListed, fewOf, ranPlanned};
+use counters::Counter;
 use messages::blanks::no_values;
+use rules::Piece;
 use rules::Pieces;
+use rules::Value;
 use rules::Values;
 use rules::transaction::used;
 use server::Log;
@@ -29,67 +29,100 @@ pub fn spot(first: u32, t: usize) -> usize
     if at < 64 { at } else { 0 }
 }
 
-// The pieces of a number on shard `k`, one after the other.
-pub fn executed(ps: Pieces, k: u32, c: Counters) -> Executed
-    ensures { λ r. ⌜ r ≡ execute ps k c ⌝ }
+// What a piece leaves in the counter at its place: on another shard than `k` what stands there. Nothing is computed for such a piece: the piece after it waits for
+// the counter, and a choice between two values would make it wait for both.
+pub fn left_by(p: Piece, k: u32, there: Counter) -> Counter
+    ensures { λ r. ⌜ r ≡ leftBy p k there ⌝ }
 {
-    let many = used(ps.count);
-    let mut counters = c;
-    let mut values = no_values();
+    let here = p.shard == k;
+    if here {
+        let x = counters::run_at(p, there);
+        let after = x.counter;
+        return after;
+    }
+    there
+}
+
+// What a piece leaves at the next place of the results: on another shard what stands there.
+pub fn result_by(p: Piece, k: u32, there: Counter, old: Value) -> Value
+    ensures { λ r. ⌜ r ≡ resultBy p k there old ⌝ }
+{
+    let here = p.shard == k;
+    if here {
+        let x = counters::run_at(p, there);
+        let result = x.result;
+        return result;
+    }
+    old
+}
+
+// How many results there are with that of a piece.
+pub fn results_by(p: Piece, k: u32, n: u32) -> u32
+    ensures { λ r. ⌜ r ≡ resultsBy p k n ⌝ }
+{
+    let here = p.shard == k;
+    if here {
+        if n < 8 {
+            return n + 1;
+        }
+    }
+    n
+}
+
+// The next place of the results, or any where there is none.
+pub fn result_place(n: u32) -> usize
+    ensures { λ r. ⌜ r ≡ resultPlace n ⌝ }
+{
+    if n < 8 { n as usize } else { 0 }
+}
+
+// The first `many` pieces of a number, one after the other: those of shard `k` run, each on its counter in its place. Answers the results.
+pub fn run_pieces(s: &mut Server, ps: Pieces, k: u32, many: usize) -> Values
+    requires { ⌜ many ≤ 8 ⌝ }
+    ensures { λ r. ⌜ (r ≡ ranPieces ps k (now (s .entry) .counters) many .values) × (now (s .exit) ≡ withCounters (now (s .entry)) (ranPieces ps k (now (s .entry) .counters) many .counters)) ⌝ }
+{
+    let mut v = no_values();
     let mut i: usize = 0;
     while i < many {
         let p = ps.list[i];
-        let here = p.shard == k;
-        if here {
-            let at = counters::place_of(p.key);
-            let there = counters.list[at];
-            let x = counters::run_at(p, there);
-            let after = x.counter;
-            let result = x.result;
-            counters.list[at] = after;
-            let last = values.count as usize;
-            values.list[last] = result;
-            values.count += 1;
-        }
+        let key = p.key;
+        let at = counters::place_of(key);
+        let there = s.counters.list[at];
+        let after = left_by(p, k, there);
+        s.counters.list[at] = after;
+        let n = v.count;
+        let end = result_place(n);
+        let old = v.list[end];
+        let result = result_by(p, k, there, old);
+        v.list[end] = result;
+        let m = results_by(p, k, n);
+        v.count = m;
         i += 1;
     }
-    Executed { counters, values }
+    v
 }
 
-pub fn ran_counters(o: Executed) -> Counters
-    ensures { λ r. ⌜ r ≡ o .counters ⌝ }
-{
-    o.counters
-}
-
-pub fn ran_values(o: Executed) -> Values
-    ensures { λ r. ⌜ r ≡ o .values ⌝ }
-{
-    o.values
-}
-
-// The numbers at the first `many` places of the plan run, each in its place, and the counters go from one to the next.
-pub fn run_listed(s: &mut Server, p: Plan, c0: Counters, many: usize) -> Counters
+// The numbers at the first `many` places of the plan run, each in its place. Answers how many these are.
+pub fn run_listed(s: &mut Server, p: Plan, many: usize) -> usize
     requires { ⌜ many ≤ 64 ⌝ }
-    ensures { λ r. ⌜ (r ≡ ranListed p (now (s .entry)) c0 many .counters) × (now (s .exit) ≡ ranListed p (now (s .entry)) c0 many .server) ⌝ }
+    ensures { λ r. ⌜ (r ≡ many) × (now (s .exit) ≡ ranListed p (now (s .entry)) many) ⌝ }
 {
     let k = p.shard;
     let first = p.first;
-    let mut c = c0;
     let mut t: usize = 0;
     while t < many {
         let at = spot(first, t);
         let n = p.list[at];
         let u = place_of(n);
         let ps = s.records[u].pieces;
-        let o = executed(ps, k, c);
-        let v = ran_values(o);
-        c = ran_counters(o);
+        let count = ps.count;
+        let walked = used(count);
+        let v = run_pieces(&mut *s, ps, k, walked);
         s.records[u].values = v;
         s.records[u].ran = 1;
         t += 1;
     }
-    c
+    t
 }
 
 // At most 64.
@@ -99,14 +132,12 @@ pub fn few(many: usize) -> usize
     if many < 64 { many } else { 64 }
 }
 
-// The plan runs, and the counters and the log are stored. Answers how many numbers ran.
+// The plan runs, and the log is stored. Answers how many numbers ran.
 pub fn run_planned(s: &mut Server, p: Plan, log: Log, many: usize) -> usize
     ensures { λ r. ⌜ (r ≡ fewOf many) × (now (s .exit) ≡ ranPlanned p log many (now (s .entry))) ⌝ }
 {
     let n = few(many);
-    let c0 = s.counters;
-    let c = run_listed(&mut *s, p, c0, n);
-    s.counters = c;
+    let done = run_listed(&mut *s, p, n);
     s.log = log;
-    n
+    done
 }

@@ -37,7 +37,7 @@ use denote.Triple.Spec.{Meets, tripleOf}
 use denote.Triple.Table.{entered, cited}
 use denote.Triple.Walked.{says, Stays, stay-ref, stay-dropped, walkOf, AllGo, goes-dropped, goes-ref, Walks, ends-at, walked, walk-meets}
 use denote.Exit.{yes}
-use Rattle.lent.proofs.Elements.{look-field, unraw}
+use Rattle.lent.proofs.Elements.{unraw}
 use Rattle.lent.proofs.Lending.{lends-cell-mut, back-cell-mut}
 use Rattle.lent.proofs.Values.{spelled-as, is-spelled}
 use mir.Raw.{raw as rawTy}
@@ -53,9 +53,6 @@ use Rattle.server_lent.proofs.running.Plan.Laws as LPlan
 use Rattle.server.specs.declared.Log.{Log}
 use Rattle.server.proofs.Log as RLog
 use Rattle.server.proofs.Log.Laws as LLog
-use Rattle.counters.specs.declared.Counters.{Counters}
-use Rattle.counters.proofs.Counters as RCounters
-use Rattle.counters.proofs.Counters.Laws as LCounters
 use Rattle.server_lent.proofs.running.few as fn-few
 use Rattle.server_lent.proofs.running.few.Symbol as def-few
 use Rattle.server_lent.proofs.running.few.Symbol.{name as #server-lent·running·few}
@@ -76,19 +73,8 @@ stayed = (stay-ref (0 ∷ []) tt (plain (λ _. RServer.the-row)), (stay-dropped 
 abbrev Sound : Server → Type 0
 Sound h = Is RServer.the-row h ((LL.vals RServer.the-type LServer.the-laws) h)
 
-Server-counters-is : (h : Server) → Is RServer.the-row h ((LL.val RServer.the-type LServer.the-laws h) ∷ []) → Is RCounters.the-row (h .counters) ((LL.val RCounters.the-type LCounters.the-laws (h .counters)) ∷ [])
-Server-counters-is h was = LL.owed RServer.the-type LServer.the-laws h ((LL.val RServer.the-type LServer.the-laws h) ∷ []) was .1 .1 .0
-
 Server-log-is : (h : Server) → Is RServer.the-row h ((LL.val RServer.the-type LServer.the-laws h) ∷ []) → Is RLog.the-row (h .log) ((LL.val RLog.the-type LLog.the-laws (h .log)) ∷ [])
 Server-log-is h was = LL.owed RServer.the-type LServer.the-laws h ((LL.val RServer.the-type LServer.the-laws h) ∷ []) was .1 .1 .1 .0
-
-abbrev with-Server-counters : (h : Server) (x : Counters) → Server
-with-Server-counters h x = record { id = h .id; records = h .records; counters = x; log = h .log }
-
-made-Server-counters : (h : Server) (x : Counters) → Is RServer.the-row h ((LL.val RServer.the-type LServer.the-laws h) ∷ []) → Is RCounters.the-row x ((LL.val RCounters.the-type LCounters.the-laws x) ∷ []) → Is RServer.the-row (with-Server-counters h x) ((LL.val RServer.the-type LServer.the-laws (with-Server-counters h x)) ∷ [])
-made-Server-counters h x was is =
-    let had = LL.owed RServer.the-type LServer.the-laws h ((LL.val RServer.the-type LServer.the-laws h) ∷ []) was in
-    LL.owes RServer.the-type LServer.the-laws (with-Server-counters h x) (had .0, (had .1 .0, (is, had .1 .1 .1)))
 
 abbrev with-Server-log : (h : Server) (x : Log) → Server
 with-Server-log h x = record { id = h .id; records = h .records; counters = h .counters; log = x }
@@ -105,44 +91,37 @@ told-1-is : (s : Server) (p : Plan) (log : Log) (many : ℕ) → fewOf many ≡ 
 unfolding told-1
 told-1-is s p log many = refl
 
-run-listed-3 : (s : Server) (p : Plan) (log : Log) (many : ℕ) → Sound s → (told-1 s p log many) ≤ 64
+run-listed-2 : (s : Server) (p : Plan) (log : Log) (many : ℕ) → Sound s → (told-1 s p log many) ≤ 64
 unfolding told-1
-run-listed-3 s p log many was = run-planned-run-listed s p log many
+run-listed-2 s p log many was = run-planned-run-listed s p log many
 
-unfoldable told-3 : (s : Server) (p : Plan) (log : Log) (many : ℕ) → Counters
-told-3 s p log many = ranListed p s (s .counters) (told-1 s p log many) .counters
+unfoldable told-2 : (s : Server) (p : Plan) (log : Log) (many : ℕ) → ℕ
+told-2 s p log many = (told-1 s p log many)
 
-told-3-is : (s : Server) (p : Plan) (log : Log) (many : ℕ) → ranListed p s (s .counters) (told-1 s p log many) .counters ≡ told-3 s p log many
-unfolding told-3
-told-3-is s p log many = refl
+told-2-is : (s : Server) (p : Plan) (log : Log) (many : ℕ) → (told-1 s p log many) ≡ told-2 s p log many
+unfolding told-2
+told-2-is s p log many = refl
 
-unfoldable left-3 : (s : Server) (p : Plan) (log : Log) (many : ℕ) → Server
-left-3 s p log many = ranListed p s (s .counters) (told-1 s p log many) .server
+unfoldable left-2 : (s : Server) (p : Plan) (log : Log) (many : ℕ) → Server
+left-2 s p log many = ranListed p s (told-1 s p log many)
 
-left-3-is : (s : Server) (p : Plan) (log : Log) (many : ℕ) → ranListed p s (s .counters) (told-1 s p log many) .server ≡ left-3 s p log many
-unfolding left-3
-left-3-is s p log many = refl
+left-2-is : (s : Server) (p : Plan) (log : Log) (many : ℕ) → ranListed p s (told-1 s p log many) ≡ left-2 s p log many
+unfolding left-2
+left-2-is s p log many = refl
 
-unfoldable left-5 : (s : Server) (p : Plan) (log : Log) (many : ℕ) → Server
-left-5 s p log many = (with-Server-counters (left-3 s p log many) (told-3 s p log many))
+unfoldable left-4 : (s : Server) (p : Plan) (log : Log) (many : ℕ) → Server
+left-4 s p log many = (with-Server-log (left-2 s p log many) log)
 
-left-5-is : (s : Server) (p : Plan) (log : Log) (many : ℕ) → (with-Server-counters (left-3 s p log many) (told-3 s p log many)) ≡ left-5 s p log many
-unfolding left-5
-left-5-is s p log many = refl
+left-4-is : (s : Server) (p : Plan) (log : Log) (many : ℕ) → (with-Server-log (left-2 s p log many) log) ≡ left-4 s p log many
+unfolding left-4
+left-4-is s p log many = refl
 
-unfoldable left-6 : (s : Server) (p : Plan) (log : Log) (many : ℕ) → Server
-left-6 s p log many = (with-Server-log (left-5 s p log many) log)
-
-left-6-is : (s : Server) (p : Plan) (log : Log) (many : ℕ) → (with-Server-log (left-5 s p log many) log) ≡ left-6 s p log many
-unfolding left-6
-left-6-is s p log many = refl
-
-told-end : (s : Server) (p : Plan) (log : Log) (many : ℕ) → Sound s → (told-1 s p log many) ≡ fewOf many
-unfolding told-1 told-3 left-3 left-5 left-6 fewOf ranListed
+told-end : (s : Server) (p : Plan) (log : Log) (many : ℕ) → Sound s → (told-2 s p log many) ≡ fewOf many
+unfolding told-1 told-2 left-2 left-4 fewOf ranListed
 told-end s p log many was = refl
 
-left-end : (s : Server) (p : Plan) (log : Log) (many : ℕ) → Sound s → (left-6 s p log many) ≡ ranPlanned p log many s
-unfolding told-1 told-3 left-3 left-5 left-6 fewOf ranListed ranPlanned
+left-end : (s : Server) (p : Plan) (log : Log) (many : ℕ) → Sound s → (left-4 s p log many) ≡ ranPlanned p log many s
+unfolding told-1 told-2 left-2 left-4 fewOf ranListed ranPlanned
 left-end s p log many was = refl
 
 module _ {M : Type 1} (𝓤 : URA M) (H : Heap 𝓤) (A : Atoms 𝓤) (at-mem : Memory → SProp 𝓤) (routines : Routine → Fun 𝓤) where
@@ -184,72 +163,59 @@ module _ {M : Type 1} (𝓤 : URA M) (H : Heap 𝓤) (A : Atoms 𝓤) (W : Given
   goes-1 : Is usize many ((vint w64 many) ∷ []) → ent 𝓤 (emp 𝓤) (C-few 𝓤 H A at-mem routines .pre (to-1))
   goes-1 is0 = qed W ([]) ∵ nothing ! $ owned ! usize (Is usize) (uint-makes 𝓤 H A W w64) many _ is0 $ fjoin ! $ nothing ! $ join ! $ frame ! $ done !
 
-  abbrev to-3 : (α : ℕ) (δ : GName) → C-run-listed 𝓤 H A at-mem routines .Ghost
-  to-3 α δ = ((((α ∷ []), tt), (fullShare, tt), tt, ((record { ptr = (b, o); name = δ; now = s }), (p, ((s .counters), ((told-1 s p log many), tt)))), ((vptr b o) ∷ [], ((LL.val RPlan.the-type LPlan.the-laws p) ∷ [], ((LL.val RCounters.the-type LCounters.the-laws (s .counters)) ∷ [], ((vint w64 (told-1 s p log many)) ∷ [], tt))))), tt)
+  abbrev to-2 : (α : ℕ) (δ : GName) → C-run-listed 𝓤 H A at-mem routines .Ghost
+  to-2 α δ = ((((α ∷ []), tt), (fullShare, tt), tt, ((record { ptr = (b, o); name = δ; now = s }), (p, ((told-1 s p log many), tt))), ((vptr b o) ∷ [], ((LL.val RPlan.the-type LPlan.the-laws p) ∷ [], ((vint w64 (told-1 s p log many)) ∷ [], tt)))), tt)
 
-  goes-3 : (α : ℕ) (δ : GName) → Is RPlan.the-row p ((LL.val RPlan.the-type LPlan.the-laws p) ∷ []) → Is RCounters.the-row (s .counters) ((LL.val RCounters.the-type LCounters.the-laws (s .counters)) ∷ []) → Is usize (told-1 s p log many) ((vint w64 (told-1 s p log many)) ∷ []) → (told-1 s p log many) ≤ 64 → ent 𝓤 (⋆ 𝓤 H A (‵ (flft (α ∷ []) fullShare) ∷ ‵ (MutRef (named 0) (α ∷ []) RServer.the-row .own (record { ptr = (b, o); name = δ; now = s }) (vptr b o ∷ [])) ∷ [])) (C-run-listed 𝓤 H A at-mem routines .pre (to-3 α δ))
-  goes-3 α δ is0 is1 is2 req = qed W (‵ (flft (α ∷ []) fullShare) ∷ ‵ (MutRef (named 0) (α ∷ []) RServer.the-row .own (record { ptr = (b, o); name = δ; now = s }) (vptr b o ∷ [])) ∷ []) ∵ says ! req $ nothing ! $ owned ! usize (Is usize) (uint-makes 𝓤 H A W w64) (told-1 s p log many) _ is2 $ fjoin ! $ owned ! RCounters.the-row (Is RCounters.the-row) (LL.makes RCounters.the-type LCounters.the-plain 𝓤 H A) (s .counters) _ is1 $ fjoin ! $ owned ! RPlan.the-row (Is RPlan.the-row) (LL.makes RPlan.the-type LPlan.the-plain 𝓤 H A) p _ is0 $ fjoin ! $ move ! (2 ∷ 0 ∷ []) $ fjoin ! $ nothing ! $ move ! (2 ∷ 0 ∷ []) $ join ! $ frame ! $ done !
+  goes-2 : (α : ℕ) (δ : GName) → Is RPlan.the-row p ((LL.val RPlan.the-type LPlan.the-laws p) ∷ []) → Is usize (told-1 s p log many) ((vint w64 (told-1 s p log many)) ∷ []) → (told-1 s p log many) ≤ 64 → ent 𝓤 (⋆ 𝓤 H A (‵ (flft (α ∷ []) fullShare) ∷ ‵ (MutRef (named 0) (α ∷ []) RServer.the-row .own (record { ptr = (b, o); name = δ; now = s }) (vptr b o ∷ [])) ∷ [])) (C-run-listed 𝓤 H A at-mem routines .pre (to-2 α δ))
+  goes-2 α δ is0 is1 req = qed W (‵ (flft (α ∷ []) fullShare) ∷ ‵ (MutRef (named 0) (α ∷ []) RServer.the-row .own (record { ptr = (b, o); name = δ; now = s }) (vptr b o ∷ [])) ∷ []) ∵ says ! req $ nothing ! $ owned ! usize (Is usize) (uint-makes 𝓤 H A W w64) (told-1 s p log many) _ is1 $ fjoin ! $ owned ! RPlan.the-row (Is RPlan.the-row) (LL.makes RPlan.the-type LPlan.the-plain 𝓤 H A) p _ is0 $ fjoin ! $ move ! (2 ∷ 0 ∷ []) $ fjoin ! $ nothing ! $ move ! (2 ∷ 0 ∷ []) $ join ! $ frame ! $ done !
 
-  module _ (𝓣 : Tables 𝓤 H) (known-few : Triple 𝓤 (𝓣 .C #server-lent·running·few) (C-few 𝓤 H A at-mem routines)) (known-run-listed : Triple 𝓤 (𝓣 .C #server-lent·running·run-listed) (C-run-listed 𝓤 H A at-mem routines)) (is-p : Is RPlan.the-row p ((LL.val RPlan.the-type LPlan.the-laws p) ∷ [])) (is-log : Is RLog.the-row log ((LL.val RLog.the-type LLog.the-laws log) ∷ [])) (is-many : Is usize many ((vint w64 many) ∷ [])) (was : Sound s) (l0 l1 l2 l3 l4 l5 l6 l7 l8 : ℕ) where
+  module _ (𝓣 : Tables 𝓤 H) (known-few : Triple 𝓤 (𝓣 .C #server-lent·running·few) (C-few 𝓤 H A at-mem routines)) (known-run-listed : Triple 𝓤 (𝓣 .C #server-lent·running·run-listed) (C-run-listed 𝓤 H A at-mem routines)) (is-p : Is RPlan.the-row p ((LL.val RPlan.the-type LPlan.the-laws p) ∷ [])) (is-log : Is RLog.the-row log ((LL.val RLog.the-type LLog.the-laws log) ∷ [])) (is-many : Is usize many ((vint w64 many) ∷ [])) (was : Sound s) (l0 l1 l2 l3 l4 l5 l6 l7 : ℕ) where
     abbrev En : Env 𝓤 H
-    En = ((tyInt w64), l0) ∷ ((tyRef (named 0) mut (pointee (RServer.the-row .written))), l1) ∷ (LPlan.mir, l2) ∷ (LLog.mir, l3) ∷ ((tyInt w64), l4) ∷ ((tyInt w64), l5) ∷ (LCounters.mir, l6) ∷ (LCounters.mir, l7) ∷ ((tyRef erased mut (pointee (RServer.the-row .written))), l8) ∷ []
+    En = ((tyInt w64), l0) ∷ ((tyRef (named 0) mut (pointee (RServer.the-row .written))), l1) ∷ (LPlan.mir, l2) ∷ (LLog.mir, l3) ∷ ((tyInt w64), l4) ∷ ((tyInt w64), l5) ∷ ((tyInt w64), l6) ∷ ((tyRef erased mut (pointee (RServer.the-row .written))), l7) ∷ []
 
-    step-8 : (is-1 : Is usize (told-1 s p log many) ((vint w64 (told-1 s p log many)) ∷ [])) (is-2 : Is RCounters.the-row (s .counters) ((LL.val RCounters.the-type LCounters.the-laws (s .counters)) ∷ [])) (is-3 : Is RCounters.the-row (told-3 s p log many) ((LL.val RCounters.the-type LCounters.the-laws (told-3 s p log many)) ∷ [])) (was-3 : Sound (left-3 s p log many)) (was-5 : Sound (left-5 s p log many)) (was-6 : Sound (left-6 s p log many)) → Sq W (‵ (cellAt fullShare (RServer.the-row .mir) ((LL.vals RServer.the-type LServer.the-laws) (left-6 s p log many)) b o) ∷ ‵ (fobor κ q (Body (mem RServer.the-row) b o γ)) ∷ ‵ (fobs γ (RServer.the-row .coded .code s)) ∷ ‵ (fauth γ (RServer.the-row .coded .code s)) ∷ ‵ (fat fullShare (tyRef erased mut (pointee (RServer.the-row .written))) l8 zero (vptr b o)) ∷ ‵ (fdies (tyRef erased mut (pointee (RServer.the-row .written))) l8) ∷ ‵ (fat fullShare LCounters.mir l7 zero (LL.val RCounters.the-type LCounters.the-laws (told-3 s p log many))) ∷ ‵ (fdies LCounters.mir l7) ∷ ‵ (fat fullShare LCounters.mir l6 zero (LL.val RCounters.the-type LCounters.the-laws (s .counters))) ∷ ‵ (fdies LCounters.mir l6) ∷ ‵ (fat fullShare (tyInt w64) l5 zero (vint w64 (told-1 s p log many))) ∷ ‵ (fdies (tyInt w64) l5) ∷ ‵ (fat fullShare (tyInt w64) l4 zero (vint w64 many)) ∷ ‵ (fdies (tyInt w64) l4) ∷ ‵ (fat fullShare LLog.mir l3 zero (LL.val RLog.the-type LLog.the-laws log)) ∷ ‵ (fdies LLog.mir l3) ∷ ‵ (fat fullShare LPlan.mir l2 zero (LL.val RPlan.the-type LPlan.the-laws p)) ∷ ‵ (fdies LPlan.mir l2) ∷ ‵ (fat fullShare (tyRef (named 0) mut (pointee (RServer.the-row .written))) l1 zero (vptr b o)) ∷ ‵ (fdies (tyRef (named 0) mut (pointee (RServer.the-row .written))) l1) ∷ ‵ (fat fullShare (tyInt w64) l0 zero (vint w64 (told-1 s p log many))) ∷ ‵ (fdies (tyInt w64) l0) ∷ []) (runs (𝓣 .C) (𝓣 .Λ) En code-mir.t-8 (atRet En Post))
-    step-8 is-1 is-2 is-3 was-3 was-5 was-6 =
-        owned ! RServer.the-row (Is RServer.the-row) (LL.makes RServer.the-type LServer.the-plain 𝓤 H A) (left-6 s p log many) _ was-6 $ move ! (1 ∷ 0 ∷ 2 ∷ 3 ∷ 4 ∷ []) $
-        closes ! tt RServer.the-row (left-6 s p log many) ((LL.vals RServer.the-type LServer.the-laws) (left-6 s p log many)) b o $ returns ! (look ! 19 refl) $ forget ! 3 refl $ forget ! 5 refl $ forget ! 7 refl $ forget ! 9 refl $
-        forget ! 11 refl $ forget ! 13 refl $ forget ! 15 refl $ forget ! 17 refl $ forget ! 19 refl $ move ! (19 ∷ 20 ∷ []) $ free1 ! $ move ! (17 ∷ 18 ∷ []) $ free1 ! $ move ! (15 ∷ 16 ∷ []) $ free1 ! $ move ! (13 ∷ 14 ∷ []) $ free1 ! $
-        move ! (11 ∷ 12 ∷ []) $ free1 ! $ move ! (9 ∷ 10 ∷ []) $ free1 ! $ move ! (7 ∷ 8 ∷ []) $ free1 ! $ move ! (5 ∷ 6 ∷ []) $ free1 ! $ move ! (3 ∷ 4 ∷ []) $ free1 ! $ free0 ! $ nothing ! $ keep ! (1 ∷ 2 ∷ 3 ∷ 0 ∷ []) $
-        by ! (exits (left-6 s p log many) (told-1 s p log many) (vint w64 (told-1 s p log many)) (told-end s p log many was) (left-end s p log many was) is-1)
+    step-6 : (is-1 : Is usize (told-1 s p log many) ((vint w64 (told-1 s p log many)) ∷ [])) (is-2 : Is usize (told-2 s p log many) ((vint w64 (told-2 s p log many)) ∷ [])) (was-2 : Sound (left-2 s p log many)) (was-4 : Sound (left-4 s p log many)) → Sq W (‵ (cellAt fullShare (RServer.the-row .mir) ((LL.vals RServer.the-type LServer.the-laws) (left-4 s p log many)) b o) ∷ ‵ (fobor κ q (Body (mem RServer.the-row) b o γ)) ∷ ‵ (fobs γ (RServer.the-row .coded .code s)) ∷ ‵ (fauth γ (RServer.the-row .coded .code s)) ∷ ‵ (fat fullShare (tyRef erased mut (pointee (RServer.the-row .written))) l7 zero (vptr b o)) ∷ ‵ (fdies (tyRef erased mut (pointee (RServer.the-row .written))) l7) ∷ ‵ (fat fullShare (tyInt w64) l6 zero (vint w64 (told-2 s p log many))) ∷ ‵ (fdies (tyInt w64) l6) ∷ ‵ (fat fullShare (tyInt w64) l5 zero (vint w64 (told-1 s p log many))) ∷ ‵ (fdies (tyInt w64) l5) ∷ ‵ (fat fullShare (tyInt w64) l4 zero (vint w64 many)) ∷ ‵ (fdies (tyInt w64) l4) ∷ ‵ (fat fullShare LLog.mir l3 zero (LL.val RLog.the-type LLog.the-laws log)) ∷ ‵ (fdies LLog.mir l3) ∷ ‵ (fat fullShare LPlan.mir l2 zero (LL.val RPlan.the-type LPlan.the-laws p)) ∷ ‵ (fdies LPlan.mir l2) ∷ ‵ (fat fullShare (tyRef (named 0) mut (pointee (RServer.the-row .written))) l1 zero (vptr b o)) ∷ ‵ (fdies (tyRef (named 0) mut (pointee (RServer.the-row .written))) l1) ∷ ‵ (fat fullShare (tyInt w64) l0 zero (vint w64 (told-2 s p log many))) ∷ ‵ (fdies (tyInt w64) l0) ∷ []) (runs (𝓣 .C) (𝓣 .Λ) En code-mir.t-6 (atRet En Post))
+    step-6 is-1 is-2 was-2 was-4 =
+        owned ! RServer.the-row (Is RServer.the-row) (LL.makes RServer.the-type LServer.the-plain 𝓤 H A) (left-4 s p log many) _ was-4 $ move ! (1 ∷ 0 ∷ 2 ∷ 3 ∷ 4 ∷ []) $
+        closes ! tt RServer.the-row (left-4 s p log many) ((LL.vals RServer.the-type LServer.the-laws) (left-4 s p log many)) b o $ returns ! (look ! 17 refl) $ forget ! 3 refl $ forget ! 5 refl $ forget ! 7 refl $ forget ! 9 refl $
+        forget ! 11 refl $ forget ! 13 refl $ forget ! 15 refl $ forget ! 17 refl $ move ! (17 ∷ 18 ∷ []) $ free1 ! $ move ! (15 ∷ 16 ∷ []) $ free1 ! $ move ! (13 ∷ 14 ∷ []) $ free1 ! $ move ! (11 ∷ 12 ∷ []) $ free1 ! $
+        move ! (9 ∷ 10 ∷ []) $ free1 ! $ move ! (7 ∷ 8 ∷ []) $ free1 ! $ move ! (5 ∷ 6 ∷ []) $ free1 ! $ move ! (3 ∷ 4 ∷ []) $ free1 ! $ free0 ! $ nothing ! $ keep ! (1 ∷ 2 ∷ 3 ∷ 0 ∷ []) $
+        by ! (exits (left-4 s p log many) (told-2 s p log many) (vint w64 (told-2 s p log many)) (told-end s p log many was) (left-end s p log many was) is-2)
 
-    step-7 : (is-1 : Is usize (told-1 s p log many) ((vint w64 (told-1 s p log many)) ∷ [])) (is-2 : Is RCounters.the-row (s .counters) ((LL.val RCounters.the-type LCounters.the-laws (s .counters)) ∷ [])) (is-3 : Is RCounters.the-row (told-3 s p log many) ((LL.val RCounters.the-type LCounters.the-laws (told-3 s p log many)) ∷ [])) (was-3 : Sound (left-3 s p log many)) (was-5 : Sound (left-5 s p log many)) (was-6 : Sound (left-6 s p log many)) → Sq W (‵ (cellAt fullShare (RServer.the-row .mir) ((LL.vals RServer.the-type LServer.the-laws) (left-6 s p log many)) b o) ∷ ‵ (fobor κ q (Body (mem RServer.the-row) b o γ)) ∷ ‵ (fobs γ (RServer.the-row .coded .code s)) ∷ ‵ (fauth γ (RServer.the-row .coded .code s)) ∷ ‵ (fat fullShare (tyRef erased mut (pointee (RServer.the-row .written))) l8 zero (vptr b o)) ∷ ‵ (fdies (tyRef erased mut (pointee (RServer.the-row .written))) l8) ∷ ‵ (fat fullShare LCounters.mir l7 zero (LL.val RCounters.the-type LCounters.the-laws (told-3 s p log many))) ∷ ‵ (fdies LCounters.mir l7) ∷ ‵ (fat fullShare LCounters.mir l6 zero (LL.val RCounters.the-type LCounters.the-laws (s .counters))) ∷ ‵ (fdies LCounters.mir l6) ∷ ‵ (fat fullShare (tyInt w64) l5 zero (vint w64 (told-1 s p log many))) ∷ ‵ (fdies (tyInt w64) l5) ∷ ‵ (fat fullShare (tyInt w64) l4 zero (vint w64 many)) ∷ ‵ (fdies (tyInt w64) l4) ∷ ‵ (fat fullShare LLog.mir l3 zero (LL.val RLog.the-type LLog.the-laws log)) ∷ ‵ (fdies LLog.mir l3) ∷ ‵ (fat fullShare LPlan.mir l2 zero (LL.val RPlan.the-type LPlan.the-laws p)) ∷ ‵ (fdies LPlan.mir l2) ∷ ‵ (fat fullShare (tyRef (named 0) mut (pointee (RServer.the-row .written))) l1 zero (vptr b o)) ∷ ‵ (fdies (tyRef (named 0) mut (pointee (RServer.the-row .written))) l1) ∷ ‵ (froom (tyInt w64) l0 zero) ∷ ‵ (fdies (tyInt w64) l0) ∷ []) (runs (𝓣 .C) (𝓣 .Λ) En code-mir.t-7 (atRet En Post))
-    step-7 is-1 is-2 is-3 was-3 was-5 was-6 =
-        assigns ! (of-opd ! (load ! (from ! (stop !)) (look ! 10 refl))) (from ! (stop !)) (init ! 20 refl (uint-lawful 𝓤 H A W w64 .typed (told-1 s p log many) _ is-1 .0)) $ step-8 is-1 is-2 is-3 was-3 was-5 was-6
+    step-5 : (is-1 : Is usize (told-1 s p log many) ((vint w64 (told-1 s p log many)) ∷ [])) (is-2 : Is usize (told-2 s p log many) ((vint w64 (told-2 s p log many)) ∷ [])) (was-2 : Sound (left-2 s p log many)) (was-4 : Sound (left-4 s p log many)) → Sq W (‵ (cellAt fullShare (RServer.the-row .mir) ((LL.vals RServer.the-type LServer.the-laws) (left-4 s p log many)) b o) ∷ ‵ (fobor κ q (Body (mem RServer.the-row) b o γ)) ∷ ‵ (fobs γ (RServer.the-row .coded .code s)) ∷ ‵ (fauth γ (RServer.the-row .coded .code s)) ∷ ‵ (fat fullShare (tyRef erased mut (pointee (RServer.the-row .written))) l7 zero (vptr b o)) ∷ ‵ (fdies (tyRef erased mut (pointee (RServer.the-row .written))) l7) ∷ ‵ (fat fullShare (tyInt w64) l6 zero (vint w64 (told-2 s p log many))) ∷ ‵ (fdies (tyInt w64) l6) ∷ ‵ (fat fullShare (tyInt w64) l5 zero (vint w64 (told-1 s p log many))) ∷ ‵ (fdies (tyInt w64) l5) ∷ ‵ (fat fullShare (tyInt w64) l4 zero (vint w64 many)) ∷ ‵ (fdies (tyInt w64) l4) ∷ ‵ (fat fullShare LLog.mir l3 zero (LL.val RLog.the-type LLog.the-laws log)) ∷ ‵ (fdies LLog.mir l3) ∷ ‵ (fat fullShare LPlan.mir l2 zero (LL.val RPlan.the-type LPlan.the-laws p)) ∷ ‵ (fdies LPlan.mir l2) ∷ ‵ (fat fullShare (tyRef (named 0) mut (pointee (RServer.the-row .written))) l1 zero (vptr b o)) ∷ ‵ (fdies (tyRef (named 0) mut (pointee (RServer.the-row .written))) l1) ∷ ‵ (froom (tyInt w64) l0 zero) ∷ ‵ (fdies (tyInt w64) l0) ∷ []) (runs (𝓣 .C) (𝓣 .Λ) En code-mir.t-5 (atRet En Post))
+    step-5 is-1 is-2 was-2 was-4 =
+        assigns ! (of-opd ! (load ! (from ! (stop !)) (look ! 6 refl))) (from ! (stop !)) (init ! 18 refl (uint-lawful 𝓤 H A W w64 .typed (told-2 s p log many) _ is-2 .0)) $ step-6 is-1 is-2 was-2 was-4
 
-    step-6 : (is-1 : Is usize (told-1 s p log many) ((vint w64 (told-1 s p log many)) ∷ [])) (is-2 : Is RCounters.the-row (s .counters) ((LL.val RCounters.the-type LCounters.the-laws (s .counters)) ∷ [])) (is-3 : Is RCounters.the-row (told-3 s p log many) ((LL.val RCounters.the-type LCounters.the-laws (told-3 s p log many)) ∷ [])) (was-3 : Sound (left-3 s p log many)) (was-5 : Sound (left-5 s p log many)) → Sq W (‵ (cellAt fullShare (RServer.the-row .mir) ((LL.vals RServer.the-type LServer.the-laws) (left-5 s p log many)) b o) ∷ ‵ (fobor κ q (Body (mem RServer.the-row) b o γ)) ∷ ‵ (fobs γ (RServer.the-row .coded .code s)) ∷ ‵ (fauth γ (RServer.the-row .coded .code s)) ∷ ‵ (fat fullShare (tyRef erased mut (pointee (RServer.the-row .written))) l8 zero (vptr b o)) ∷ ‵ (fdies (tyRef erased mut (pointee (RServer.the-row .written))) l8) ∷ ‵ (fat fullShare LCounters.mir l7 zero (LL.val RCounters.the-type LCounters.the-laws (told-3 s p log many))) ∷ ‵ (fdies LCounters.mir l7) ∷ ‵ (fat fullShare LCounters.mir l6 zero (LL.val RCounters.the-type LCounters.the-laws (s .counters))) ∷ ‵ (fdies LCounters.mir l6) ∷ ‵ (fat fullShare (tyInt w64) l5 zero (vint w64 (told-1 s p log many))) ∷ ‵ (fdies (tyInt w64) l5) ∷ ‵ (fat fullShare (tyInt w64) l4 zero (vint w64 many)) ∷ ‵ (fdies (tyInt w64) l4) ∷ ‵ (fat fullShare LLog.mir l3 zero (LL.val RLog.the-type LLog.the-laws log)) ∷ ‵ (fdies LLog.mir l3) ∷ ‵ (fat fullShare LPlan.mir l2 zero (LL.val RPlan.the-type LPlan.the-laws p)) ∷ ‵ (fdies LPlan.mir l2) ∷ ‵ (fat fullShare (tyRef (named 0) mut (pointee (RServer.the-row .written))) l1 zero (vptr b o)) ∷ ‵ (fdies (tyRef (named 0) mut (pointee (RServer.the-row .written))) l1) ∷ ‵ (froom (tyInt w64) l0 zero) ∷ ‵ (fdies (tyInt w64) l0) ∷ []) (runs (𝓣 .C) (𝓣 .Λ) En code-mir.t-6 (atRet En Post))
-    step-6 is-1 is-2 is-3 was-3 was-5 =
-        assigns ! (of-opd ! (load ! (from ! (stop !)) (look ! 14 refl))) (from ! (hop ! (look ! 18 refl) (fld ! {τ = LLog.mir} {d = 19528} refl (stop !)))) (store-in ! 0 (unraw ! (sub ! 3 {τ = rawTy LLog.mir} {d = 19528} refl (whole !))) (LL.lawful RLog.the-type LLog.the-laws 𝓤 H A W .typed log _ is-log .0)) $
-        rewrite ! 0 (λ (h : Server). ‵ (cellAt fullShare (RServer.the-row .mir) ((LL.vals RServer.the-type LServer.the-laws) h) b o)) (refl ∙ left-6-is s p log many) refl $
-        step-7 is-1 is-2 is-3 was-3 was-5 (subst Sound (refl ∙ left-6-is s p log many) (made-Server-log (left-5 s p log many) log was-5 is-log))
+    step-4 : (is-1 : Is usize (told-1 s p log many) ((vint w64 (told-1 s p log many)) ∷ [])) (is-2 : Is usize (told-2 s p log many) ((vint w64 (told-2 s p log many)) ∷ [])) (was-2 : Sound (left-2 s p log many)) → Sq W (‵ (cellAt fullShare (RServer.the-row .mir) ((LL.vals RServer.the-type LServer.the-laws) (left-2 s p log many)) b o) ∷ ‵ (fobor κ q (Body (mem RServer.the-row) b o γ)) ∷ ‵ (fobs γ (RServer.the-row .coded .code s)) ∷ ‵ (fauth γ (RServer.the-row .coded .code s)) ∷ ‵ (fat fullShare (tyRef erased mut (pointee (RServer.the-row .written))) l7 zero (vptr b o)) ∷ ‵ (fdies (tyRef erased mut (pointee (RServer.the-row .written))) l7) ∷ ‵ (fat fullShare (tyInt w64) l6 zero (vint w64 (told-2 s p log many))) ∷ ‵ (fdies (tyInt w64) l6) ∷ ‵ (fat fullShare (tyInt w64) l5 zero (vint w64 (told-1 s p log many))) ∷ ‵ (fdies (tyInt w64) l5) ∷ ‵ (fat fullShare (tyInt w64) l4 zero (vint w64 many)) ∷ ‵ (fdies (tyInt w64) l4) ∷ ‵ (fat fullShare LLog.mir l3 zero (LL.val RLog.the-type LLog.the-laws log)) ∷ ‵ (fdies LLog.mir l3) ∷ ‵ (fat fullShare LPlan.mir l2 zero (LL.val RPlan.the-type LPlan.the-laws p)) ∷ ‵ (fdies LPlan.mir l2) ∷ ‵ (fat fullShare (tyRef (named 0) mut (pointee (RServer.the-row .written))) l1 zero (vptr b o)) ∷ ‵ (fdies (tyRef (named 0) mut (pointee (RServer.the-row .written))) l1) ∷ ‵ (froom (tyInt w64) l0 zero) ∷ ‵ (fdies (tyInt w64) l0) ∷ []) (runs (𝓣 .C) (𝓣 .Λ) En code-mir.t-4 (atRet En Post))
+    step-4 is-1 is-2 was-2 =
+        assigns ! (of-opd ! (load ! (from ! (stop !)) (look ! 12 refl))) (from ! (hop ! (look ! 16 refl) (fld ! {τ = LLog.mir} {d = 19528} refl (stop !)))) (store-in ! 0 (unraw ! (sub ! 3 {τ = rawTy LLog.mir} {d = 19528} refl (whole !))) (LL.lawful RLog.the-type LLog.the-laws 𝓤 H A W .typed log _ is-log .0)) $
+        rewrite ! 0 (λ (h : Server). ‵ (cellAt fullShare (RServer.the-row .mir) ((LL.vals RServer.the-type LServer.the-laws) h) b o)) (refl ∙ left-4-is s p log many) refl $
+        step-5 is-1 is-2 was-2 (subst Sound (refl ∙ left-4-is s p log many) (made-Server-log (left-2 s p log many) log was-2 is-log))
 
-    step-5 : (is-1 : Is usize (told-1 s p log many) ((vint w64 (told-1 s p log many)) ∷ [])) (is-2 : Is RCounters.the-row (s .counters) ((LL.val RCounters.the-type LCounters.the-laws (s .counters)) ∷ [])) (is-3 : Is RCounters.the-row (told-3 s p log many) ((LL.val RCounters.the-type LCounters.the-laws (told-3 s p log many)) ∷ [])) (was-3 : Sound (left-3 s p log many)) → Sq W (‵ (cellAt fullShare (RServer.the-row .mir) ((LL.vals RServer.the-type LServer.the-laws) (left-3 s p log many)) b o) ∷ ‵ (fobor κ q (Body (mem RServer.the-row) b o γ)) ∷ ‵ (fobs γ (RServer.the-row .coded .code s)) ∷ ‵ (fauth γ (RServer.the-row .coded .code s)) ∷ ‵ (fat fullShare (tyRef erased mut (pointee (RServer.the-row .written))) l8 zero (vptr b o)) ∷ ‵ (fdies (tyRef erased mut (pointee (RServer.the-row .written))) l8) ∷ ‵ (fat fullShare LCounters.mir l7 zero (LL.val RCounters.the-type LCounters.the-laws (told-3 s p log many))) ∷ ‵ (fdies LCounters.mir l7) ∷ ‵ (fat fullShare LCounters.mir l6 zero (LL.val RCounters.the-type LCounters.the-laws (s .counters))) ∷ ‵ (fdies LCounters.mir l6) ∷ ‵ (fat fullShare (tyInt w64) l5 zero (vint w64 (told-1 s p log many))) ∷ ‵ (fdies (tyInt w64) l5) ∷ ‵ (fat fullShare (tyInt w64) l4 zero (vint w64 many)) ∷ ‵ (fdies (tyInt w64) l4) ∷ ‵ (fat fullShare LLog.mir l3 zero (LL.val RLog.the-type LLog.the-laws log)) ∷ ‵ (fdies LLog.mir l3) ∷ ‵ (fat fullShare LPlan.mir l2 zero (LL.val RPlan.the-type LPlan.the-laws p)) ∷ ‵ (fdies LPlan.mir l2) ∷ ‵ (fat fullShare (tyRef (named 0) mut (pointee (RServer.the-row .written))) l1 zero (vptr b o)) ∷ ‵ (fdies (tyRef (named 0) mut (pointee (RServer.the-row .written))) l1) ∷ ‵ (froom (tyInt w64) l0 zero) ∷ ‵ (fdies (tyInt w64) l0) ∷ []) (runs (𝓣 .C) (𝓣 .Λ) En code-mir.t-5 (atRet En Post))
-    step-5 is-1 is-2 is-3 was-3 =
-        assigns ! (of-opd ! (load ! (from ! (stop !)) (look ! 6 refl))) (from ! (hop ! (look ! 18 refl) (fld ! {τ = LCounters.mir} {d = 19464} refl (stop !)))) (store-in ! 0 (unraw ! (sub ! 2 {τ = rawTy LCounters.mir} {d = 19464} refl (whole !))) (LL.lawful RCounters.the-type LCounters.the-laws 𝓤 H A W .typed (told-3 s p log many) _ is-3 .0)) $
-        rewrite ! 0 (λ (h : Server). ‵ (cellAt fullShare (RServer.the-row .mir) ((LL.vals RServer.the-type LServer.the-laws) h) b o)) (refl ∙ left-5-is s p log many) refl $
-        step-6 is-1 is-2 is-3 was-3 (subst Sound (refl ∙ left-5-is s p log many) (made-Server-counters (left-3 s p log many) (told-3 s p log many) was-3 is-3))
-
-    step-3 : (is-1 : Is usize (told-1 s p log many) ((vint w64 (told-1 s p log many)) ∷ [])) (is-2 : Is RCounters.the-row (s .counters) ((LL.val RCounters.the-type LCounters.the-laws (s .counters)) ∷ [])) → Sq W (‵ (cellAt fullShare (RServer.the-row .mir) ((LL.vals RServer.the-type LServer.the-laws) s) b o) ∷ ‵ (fobor κ q (Body (mem RServer.the-row) b o γ)) ∷ ‵ (fobs γ (RServer.the-row .coded .code s)) ∷ ‵ (fauth γ (RServer.the-row .coded .code s)) ∷ ‵ (froom (tyRef erased mut (pointee (RServer.the-row .written))) l8 zero) ∷ ‵ (fdies (tyRef erased mut (pointee (RServer.the-row .written))) l8) ∷ ‵ (froom LCounters.mir l7 zero) ∷ ‵ (fdies LCounters.mir l7) ∷ ‵ (fat fullShare LCounters.mir l6 zero (LL.val RCounters.the-type LCounters.the-laws (s .counters))) ∷ ‵ (fdies LCounters.mir l6) ∷ ‵ (fat fullShare (tyInt w64) l5 zero (vint w64 (told-1 s p log many))) ∷ ‵ (fdies (tyInt w64) l5) ∷ ‵ (fat fullShare (tyInt w64) l4 zero (vint w64 many)) ∷ ‵ (fdies (tyInt w64) l4) ∷ ‵ (fat fullShare LLog.mir l3 zero (LL.val RLog.the-type LLog.the-laws log)) ∷ ‵ (fdies LLog.mir l3) ∷ ‵ (fat fullShare LPlan.mir l2 zero (LL.val RPlan.the-type LPlan.the-laws p)) ∷ ‵ (fdies LPlan.mir l2) ∷ ‵ (fat fullShare (tyRef (named 0) mut (pointee (RServer.the-row .written))) l1 zero (vptr b o)) ∷ ‵ (fdies (tyRef (named 0) mut (pointee (RServer.the-row .written))) l1) ∷ ‵ (froom (tyInt w64) l0 zero) ∷ ‵ (fdies (tyInt w64) l0) ∷ []) (runs (𝓣 .C) (𝓣 .Λ) En code-mir.t-3 (atRet En Post))
-    step-3 is-1 is-2 =
-        -- server_lent::running::run_listed
-        assigns ! (addr ! (from ! (hop ! (look ! 18 refl) (stop !)))) (from ! (stop !)) (init ! 4 refl (tt, tt)) $
-        lends-cell-mut ! tt RServer.the-row (Is RServer.the-row) (shows 𝓤 H A RServer.the-row) (LL.makes RServer.the-type LServer.the-plain 𝓤 H A) (LL.vals RServer.the-type LServer.the-laws) (LL.tells RServer.the-type LServer.the-laws) b o s was (λ α δ.
-        use2 W (raw (C-run-listed 𝓤 H A at-mem routines .pre (to-3 α δ))) (goes-3 α δ is-p is-2 is-1 (run-listed-3 s p log many was)) $
-        calls-at ! (fmOf 𝓤 H (W .laws) 𝓣) (C-run-listed 𝓤 H A at-mem routines) known-run-listed (to-3 α δ) (and-then ! (load ! (from ! (stop !)) (look ! 5 refl)) (and-then ! (load ! (from ! (stop !)) (look ! 17 refl)) (and-then ! (load ! (from ! (stop !)) (look ! 9 refl)) (and-then ! (load ! (from ! (stop !)) (look ! 11 refl)) (no-more !))))) (λ v.
-        use1 W (later (some (λ (r : Counters). ((‵ (flft (α ∷ []) fullShare) ⊛ ‵ ftrue) ⊛ ‵ (RCounters.the-row .own r (v ∷ []))) ⊛ raw (ensured 𝓤 H A fn-run-listed.ended (fn-run-listed.clauses 𝓤 H A at-mem routines) ((α ∷ []), tt) ((record { ptr = (b, o); name = δ; now = s }), (p, ((s .counters), ((told-1 s p log many), tt)))) tt r)))) (id⊢ 𝓤 _) $ await ! tt $ pick ! (λ x.
-        split ! $ move ! (1 ∷ []) $
-        use1 W (some (λ (zs : Server × (Unit {0} × (Unit {0} × (Unit {0} × (Unit {0}))))). ‵ (lasts fn-run-listed.ended ((α ∷ []), tt) ((record { ptr = (b, o); name = δ; now = s }), (p, ((s .counters), ((told-1 s p log many), tt)))) zs) ⊛ raw (fact 𝓤 ((x ≡ ranListed p s (s .counters) (told-1 s p log many) .counters) × (zs .0 ≡ ranListed p s (s .counters) (told-1 s p log many) .server))))) (id⊢ 𝓤 _) $ pick ! (λ zs.
-        split ! $ move ! (1 ∷ []) $ heard ! ((x ≡ ranListed p s (s .counters) (told-1 s p log many) .counters) × (zs .0 ≡ ranListed p s (s .counters) (told-1 s p log many) .server)) (λ e. fsplit ! $ move ! (1 ∷ []) $ fsplit ! $ drop ! $
-        fsplit ! $ drop ! $ fsplit ! $ drop ! $ drop ! $ move ! (1 ∷ []) $ split ! $ move ! (1 ∷ []) $ facts ! RCounters.the-row (Is RCounters.the-row) (shows 𝓤 H A RCounters.the-row) x (v ∷ []) (λ is. split ! $ move ! (1 ∷ []) $ drop ! $
-        land ! (from ! (stop !)) (init ! 8 refl (LL.lawful RCounters.the-type LCounters.the-laws 𝓤 H A W .typed x _ is .0)) $
-        rewrite ! 8 (λ (w : Val). ‵ (fat fullShare LCounters.mir l7 zero w)) (spelled-as RCounters.the-row (LL.vals RCounters.the-type LCounters.the-laws) (LL.tells RCounters.the-type LCounters.the-laws) x (told-3 s p log many) v is ((e .0) ∙ told-3-is s p log many)) refl $
-        move ! (0 ∷ 2 ∷ 1 ∷ []) $
-        back-cell-mut ! tt RServer.the-row (Is RServer.the-row) (shows 𝓤 H A RServer.the-row) (LL.makes RServer.the-type LServer.the-plain 𝓤 H A) (LL.vals RServer.the-type LServer.the-laws) (LL.tells RServer.the-type LServer.the-laws) b o (zs .0) (λ was-left.
-        rewrite ! 0 (λ (h : Server). ‵ (cellAt fullShare (RServer.the-row .mir) ((LL.vals RServer.the-type LServer.the-laws) h) b o)) ((e .1) ∙ left-3-is s p log many) refl $
-        step-5 is-1 is-2 (is-spelled RCounters.the-row (LL.vals RCounters.the-type LCounters.the-laws) (LL.tells RCounters.the-type LCounters.the-laws) x (told-3 s p log many) v is ((e .0) ∙ told-3-is s p log many)) (subst Sound ((e .1) ∙ left-3-is s p log many) was-left))))))))
-
-    step-2 : (is-1 : Is usize (told-1 s p log many) ((vint w64 (told-1 s p log many)) ∷ [])) → Sq W (‵ (cellAt fullShare (RServer.the-row .mir) ((LL.vals RServer.the-type LServer.the-laws) s) b o) ∷ ‵ (fobor κ q (Body (mem RServer.the-row) b o γ)) ∷ ‵ (fobs γ (RServer.the-row .coded .code s)) ∷ ‵ (fauth γ (RServer.the-row .coded .code s)) ∷ ‵ (froom (tyRef erased mut (pointee (RServer.the-row .written))) l8 zero) ∷ ‵ (fdies (tyRef erased mut (pointee (RServer.the-row .written))) l8) ∷ ‵ (froom LCounters.mir l7 zero) ∷ ‵ (fdies LCounters.mir l7) ∷ ‵ (froom LCounters.mir l6 zero) ∷ ‵ (fdies LCounters.mir l6) ∷ ‵ (fat fullShare (tyInt w64) l5 zero (vint w64 (told-1 s p log many))) ∷ ‵ (fdies (tyInt w64) l5) ∷ ‵ (fat fullShare (tyInt w64) l4 zero (vint w64 many)) ∷ ‵ (fdies (tyInt w64) l4) ∷ ‵ (fat fullShare LLog.mir l3 zero (LL.val RLog.the-type LLog.the-laws log)) ∷ ‵ (fdies LLog.mir l3) ∷ ‵ (fat fullShare LPlan.mir l2 zero (LL.val RPlan.the-type LPlan.the-laws p)) ∷ ‵ (fdies LPlan.mir l2) ∷ ‵ (fat fullShare (tyRef (named 0) mut (pointee (RServer.the-row .written))) l1 zero (vptr b o)) ∷ ‵ (fdies (tyRef (named 0) mut (pointee (RServer.the-row .written))) l1) ∷ ‵ (froom (tyInt w64) l0 zero) ∷ ‵ (fdies (tyInt w64) l0) ∷ []) (runs (𝓣 .C) (𝓣 .Λ) En code-mir.t-2 (atRet En Post))
+    step-2 : (is-1 : Is usize (told-1 s p log many) ((vint w64 (told-1 s p log many)) ∷ [])) → Sq W (‵ (cellAt fullShare (RServer.the-row .mir) ((LL.vals RServer.the-type LServer.the-laws) s) b o) ∷ ‵ (fobor κ q (Body (mem RServer.the-row) b o γ)) ∷ ‵ (fobs γ (RServer.the-row .coded .code s)) ∷ ‵ (fauth γ (RServer.the-row .coded .code s)) ∷ ‵ (froom (tyRef erased mut (pointee (RServer.the-row .written))) l7 zero) ∷ ‵ (fdies (tyRef erased mut (pointee (RServer.the-row .written))) l7) ∷ ‵ (froom (tyInt w64) l6 zero) ∷ ‵ (fdies (tyInt w64) l6) ∷ ‵ (fat fullShare (tyInt w64) l5 zero (vint w64 (told-1 s p log many))) ∷ ‵ (fdies (tyInt w64) l5) ∷ ‵ (fat fullShare (tyInt w64) l4 zero (vint w64 many)) ∷ ‵ (fdies (tyInt w64) l4) ∷ ‵ (fat fullShare LLog.mir l3 zero (LL.val RLog.the-type LLog.the-laws log)) ∷ ‵ (fdies LLog.mir l3) ∷ ‵ (fat fullShare LPlan.mir l2 zero (LL.val RPlan.the-type LPlan.the-laws p)) ∷ ‵ (fdies LPlan.mir l2) ∷ ‵ (fat fullShare (tyRef (named 0) mut (pointee (RServer.the-row .written))) l1 zero (vptr b o)) ∷ ‵ (fdies (tyRef (named 0) mut (pointee (RServer.the-row .written))) l1) ∷ ‵ (froom (tyInt w64) l0 zero) ∷ ‵ (fdies (tyInt w64) l0) ∷ []) (runs (𝓣 .C) (𝓣 .Λ) En code-mir.t-2 (atRet En Post))
     step-2 is-1 =
-        assigns ! (of-opd ! (load ! (from ! (hop ! (look ! 18 refl) (fld ! {τ = LCounters.mir} {d = 19464} refl (stop !)))) (look-field ! 0 (LL.val RCounters.the-type LCounters.the-laws (s .counters)) refl (sub ! 2 {τ = rawTy LCounters.mir} {d = 19464} refl (whole !))))) (from ! (stop !)) (init ! 8 refl (LL.lawful RCounters.the-type LCounters.the-laws 𝓤 H A W .typed (s .counters) _ (Server-counters-is s was) .0)) $
-        step-3 is-1 (Server-counters-is s was)
+        -- server_lent::running::run_listed
+        assigns ! (addr ! (from ! (hop ! (look ! 16 refl) (stop !)))) (from ! (stop !)) (init ! 4 refl (tt, tt)) $
+        lends-cell-mut ! tt RServer.the-row (Is RServer.the-row) (shows 𝓤 H A RServer.the-row) (LL.makes RServer.the-type LServer.the-plain 𝓤 H A) (LL.vals RServer.the-type LServer.the-laws) (LL.tells RServer.the-type LServer.the-laws) b o s was (λ α δ.
+        use2 W (raw (C-run-listed 𝓤 H A at-mem routines .pre (to-2 α δ))) (goes-2 α δ is-p is-1 (run-listed-2 s p log many was)) $
+        calls-at ! (fmOf 𝓤 H (W .laws) 𝓣) (C-run-listed 𝓤 H A at-mem routines) known-run-listed (to-2 α δ) (and-then ! (load ! (from ! (stop !)) (look ! 5 refl)) (and-then ! (load ! (from ! (stop !)) (look ! 15 refl)) (and-then ! (load ! (from ! (stop !)) (look ! 9 refl)) (no-more !)))) (λ v.
+        use1 W (later (some (λ (r : ℕ). ((‵ (flft (α ∷ []) fullShare) ⊛ ‵ ftrue) ⊛ ‵ (usize .own r (v ∷ []))) ⊛ raw (ensured 𝓤 H A fn-run-listed.ended (fn-run-listed.clauses 𝓤 H A at-mem routines) ((α ∷ []), tt) ((record { ptr = (b, o); name = δ; now = s }), (p, ((told-1 s p log many), tt))) tt r)))) (id⊢ 𝓤 _) $ await ! tt $ pick ! (λ x.
+        split ! $ move ! (1 ∷ []) $
+        use1 W (some (λ (zs : Server × (Unit {0} × (Unit {0} × (Unit {0})))). ‵ (lasts fn-run-listed.ended ((α ∷ []), tt) ((record { ptr = (b, o); name = δ; now = s }), (p, ((told-1 s p log many), tt))) zs) ⊛ raw (fact 𝓤 ((x ≡ (told-1 s p log many)) × (zs .0 ≡ ranListed p s (told-1 s p log many)))))) (id⊢ 𝓤 _) $ pick ! (λ zs.
+        split ! $ move ! (1 ∷ []) $ heard ! ((x ≡ (told-1 s p log many)) × (zs .0 ≡ ranListed p s (told-1 s p log many))) (λ e. fsplit ! $ move ! (1 ∷ []) $ fsplit ! $ drop ! $ fsplit ! $ drop ! $ drop ! $ move ! (1 ∷ []) $ split ! $
+        move ! (1 ∷ []) $ facts ! usize (Is usize) (shows 𝓤 H A usize) x (v ∷ []) (λ is. split ! $ move ! (1 ∷ []) $ drop ! $ land ! (from ! (stop !)) (init ! 8 refl (uint-lawful 𝓤 H A W w64 .typed x _ is .0)) $
+        rewrite ! 8 (λ (w : Val). ‵ (fat fullShare (tyInt w64) l6 zero w)) (spelled-as usize (uint-vals w64) (uint-tells w64) x (told-2 s p log many) v is ((e .0) ∙ told-2-is s p log many)) refl $ move ! (0 ∷ 2 ∷ 1 ∷ []) $
+        back-cell-mut ! tt RServer.the-row (Is RServer.the-row) (shows 𝓤 H A RServer.the-row) (LL.makes RServer.the-type LServer.the-plain 𝓤 H A) (LL.vals RServer.the-type LServer.the-laws) (LL.tells RServer.the-type LServer.the-laws) b o (zs .0) (λ was-left.
+        rewrite ! 0 (λ (h : Server). ‵ (cellAt fullShare (RServer.the-row .mir) ((LL.vals RServer.the-type LServer.the-laws) h) b o)) ((e .1) ∙ left-2-is s p log many) refl $
+        step-4 is-1 (is-spelled usize (uint-vals w64) (uint-tells w64) x (told-2 s p log many) v is ((e .0) ∙ told-2-is s p log many)) (subst Sound ((e .1) ∙ left-2-is s p log many) was-left))))))))
 
-    step-1 : Sq W (‵ (cellAt fullShare (RServer.the-row .mir) ((LL.vals RServer.the-type LServer.the-laws) s) b o) ∷ ‵ (fobor κ q (Body (mem RServer.the-row) b o γ)) ∷ ‵ (fobs γ (RServer.the-row .coded .code s)) ∷ ‵ (fauth γ (RServer.the-row .coded .code s)) ∷ ‵ (froom (tyRef erased mut (pointee (RServer.the-row .written))) l8 zero) ∷ ‵ (fdies (tyRef erased mut (pointee (RServer.the-row .written))) l8) ∷ ‵ (froom LCounters.mir l7 zero) ∷ ‵ (fdies LCounters.mir l7) ∷ ‵ (froom LCounters.mir l6 zero) ∷ ‵ (fdies LCounters.mir l6) ∷ ‵ (froom (tyInt w64) l5 zero) ∷ ‵ (fdies (tyInt w64) l5) ∷ ‵ (fat fullShare (tyInt w64) l4 zero (vint w64 many)) ∷ ‵ (fdies (tyInt w64) l4) ∷ ‵ (fat fullShare LLog.mir l3 zero (LL.val RLog.the-type LLog.the-laws log)) ∷ ‵ (fdies LLog.mir l3) ∷ ‵ (fat fullShare LPlan.mir l2 zero (LL.val RPlan.the-type LPlan.the-laws p)) ∷ ‵ (fdies LPlan.mir l2) ∷ ‵ (fat fullShare (tyRef (named 0) mut (pointee (RServer.the-row .written))) l1 zero (vptr b o)) ∷ ‵ (fdies (tyRef (named 0) mut (pointee (RServer.the-row .written))) l1) ∷ ‵ (froom (tyInt w64) l0 zero) ∷ ‵ (fdies (tyInt w64) l0) ∷ []) (runs (𝓣 .C) (𝓣 .Λ) En code-mir.t-1 (atRet En Post))
+    step-1 : Sq W (‵ (cellAt fullShare (RServer.the-row .mir) ((LL.vals RServer.the-type LServer.the-laws) s) b o) ∷ ‵ (fobor κ q (Body (mem RServer.the-row) b o γ)) ∷ ‵ (fobs γ (RServer.the-row .coded .code s)) ∷ ‵ (fauth γ (RServer.the-row .coded .code s)) ∷ ‵ (froom (tyRef erased mut (pointee (RServer.the-row .written))) l7 zero) ∷ ‵ (fdies (tyRef erased mut (pointee (RServer.the-row .written))) l7) ∷ ‵ (froom (tyInt w64) l6 zero) ∷ ‵ (fdies (tyInt w64) l6) ∷ ‵ (froom (tyInt w64) l5 zero) ∷ ‵ (fdies (tyInt w64) l5) ∷ ‵ (fat fullShare (tyInt w64) l4 zero (vint w64 many)) ∷ ‵ (fdies (tyInt w64) l4) ∷ ‵ (fat fullShare LLog.mir l3 zero (LL.val RLog.the-type LLog.the-laws log)) ∷ ‵ (fdies LLog.mir l3) ∷ ‵ (fat fullShare LPlan.mir l2 zero (LL.val RPlan.the-type LPlan.the-laws p)) ∷ ‵ (fdies LPlan.mir l2) ∷ ‵ (fat fullShare (tyRef (named 0) mut (pointee (RServer.the-row .written))) l1 zero (vptr b o)) ∷ ‵ (fdies (tyRef (named 0) mut (pointee (RServer.the-row .written))) l1) ∷ ‵ (froom (tyInt w64) l0 zero) ∷ ‵ (fdies (tyInt w64) l0) ∷ []) (runs (𝓣 .C) (𝓣 .Λ) En code-mir.t-1 (atRet En Post))
     step-1 =
         -- server_lent::running::few
-        use0 W (raw (C-few 𝓤 H A at-mem routines .pre (to-1))) (goes-1 is-many) $ calls-at ! (fmOf 𝓤 H (W .laws) 𝓣) (C-few 𝓤 H A at-mem routines) known-few (to-1) (and-then ! (load ! (from ! (stop !)) (look ! 13 refl)) (no-more !)) (λ v.
+        use0 W (raw (C-few 𝓤 H A at-mem routines .pre (to-1))) (goes-1 is-many) $ calls-at ! (fmOf 𝓤 H (W .laws) 𝓣) (C-few 𝓤 H A at-mem routines) known-few (to-1) (and-then ! (load ! (from ! (stop !)) (look ! 11 refl)) (no-more !)) (λ v.
         use1 W (later (some (λ (r : ℕ). ((‵ ftrue) ⊛ ‵ (usize .own r (v ∷ []))) ⊛ raw (ensured 𝓤 H A fn-few.ended (fn-few.clauses 𝓤 H A at-mem routines) tt (many, tt) tt r)))) (id⊢ 𝓤 _) $ await ! tt $ pick ! (λ x. split ! $
         move ! (1 ∷ []) $ use1 W (some (λ (zs : Unit {0} × (Unit {0})). ‵ (lasts fn-few.ended tt (many, tt) zs) ⊛ raw (fact 𝓤 (x ≡ fewOf many)))) (id⊢ 𝓤 _) $ pick ! (λ zs. split ! $ move ! (1 ∷ []) $ heard ! (x ≡ fewOf many) (λ e.
-        drop ! $ split ! $ move ! (1 ∷ []) $ facts ! usize (Is usize) (shows 𝓤 H A usize) x (v ∷ []) (λ is. drop ! $ land ! (from ! (stop !)) (init ! 10 refl (uint-lawful 𝓤 H A W w64 .typed x _ is .0)) $
-        rewrite ! 10 (λ (w : Val). ‵ (fat fullShare (tyInt w64) l5 zero w)) (spelled-as usize (uint-vals w64) (uint-tells w64) x (told-1 s p log many) v is (e ∙ told-1-is s p log many)) refl $
+        drop ! $ split ! $ move ! (1 ∷ []) $ facts ! usize (Is usize) (shows 𝓤 H A usize) x (v ∷ []) (λ is. drop ! $ land ! (from ! (stop !)) (init ! 8 refl (uint-lawful 𝓤 H A W w64 .typed x _ is .0)) $
+        rewrite ! 8 (λ (w : Val). ‵ (fat fullShare (tyInt w64) l5 zero w)) (spelled-as usize (uint-vals w64) (uint-tells w64) x (told-1 s p log many) v is (e ∙ told-1-is s p log many)) refl $
         step-2 (is-spelled usize (uint-vals w64) (uint-tells w64) x (told-1 s p log many) v is (e ∙ told-1-is s p log many)))))))
 
   module _ (𝓣 : Tables 𝓤 H) (known-few : Triple 𝓤 (𝓣 .C #server-lent·running·few) (C-few 𝓤 H A at-mem routines)) (known-run-listed : Triple 𝓤 (𝓣 .C #server-lent·running·run-listed) (C-run-listed 𝓤 H A at-mem routines)) where
@@ -257,12 +223,12 @@ module _ {M : Type 1} (𝓤 : URA M) (H : Heap 𝓤) (A : Atoms 𝓤) (W : Given
     walk is-p is-log is-many =
         qed W ((‵ (flft κ q) ⊛ tokens) ∷ ‵ (owns (MutRef (named 0) κ RServer.the-row ∷ RPlan.the-row ∷ RLog.the-row ∷ usize ∷ []) a at) ∷ []) ∵
         split ! $ move ! (1 ∷ []) $ drop ! $ move ! (1 ∷ []) $ fsplit ! $ move ! (1 ∷ []) $ fsplit ! $ drop ! $ fsplit ! $ drop ! $ fsplit ! $ drop ! $ drop ! $ fsplit3 ! $ drop ! $
-        enter ! (𝓣 .C) (𝓣 .Λ) code.function (vptr b o ∷ (LL.val RPlan.the-type LPlan.the-laws p) ∷ (LL.val RLog.the-type LLog.the-laws log) ∷ (vint w64 many) ∷ []) _ $ alloc1 ! (λ l0. alloc1 ! (λ l1. alloc1 ! (λ l2. alloc1 ! (λ l3. alloc1 ! (λ l4. alloc1 ! (λ l5. alloc1 ! (λ l6. alloc1 ! (λ l7. alloc1 ! (λ l8. alloc0 ! $ params1 ! $
-        pass1 ! (init ! 14 refl (tt, tt)) $ pass1 ! (init ! 12 refl (LL.lawful RPlan.the-type LPlan.the-laws 𝓤 H A W .typed p _ is-p .0)) $ pass1 ! (init ! 10 refl (LL.lawful RLog.the-type LLog.the-laws 𝓤 H A W .typed log _ is-log .0)) $ pass1 ! (init ! 8 refl (uint-lawful 𝓤 H A W w64 .typed many _ is-many .0)) $ pass0 ! $
-        move ! (18 ∷ 19 ∷ 20 ∷ []) $
+        enter ! (𝓣 .C) (𝓣 .Λ) code.function (vptr b o ∷ (LL.val RPlan.the-type LPlan.the-laws p) ∷ (LL.val RLog.the-type LLog.the-laws log) ∷ (vint w64 many) ∷ []) _ $ alloc1 ! (λ l0. alloc1 ! (λ l1. alloc1 ! (λ l2. alloc1 ! (λ l3. alloc1 ! (λ l4. alloc1 ! (λ l5. alloc1 ! (λ l6. alloc1 ! (λ l7. alloc0 ! $ params1 ! $
+        pass1 ! (init ! 12 refl (tt, tt)) $ pass1 ! (init ! 10 refl (LL.lawful RPlan.the-type LPlan.the-laws 𝓤 H A W .typed p _ is-p .0)) $ pass1 ! (init ! 8 refl (LL.lawful RLog.the-type LLog.the-laws 𝓤 H A W .typed log _ is-log .0)) $ pass1 ! (init ! 6 refl (uint-lawful 𝓤 H A W w64 .typed many _ is-many .0)) $ pass0 ! $
+        move ! (16 ∷ 17 ∷ 18 ∷ []) $
         opens ! tt RServer.the-row {h = s} b o (λ vs. spelt ! RServer.the-row (Is RServer.the-row) (shows 𝓤 H A RServer.the-row) (LL.vals RServer.the-type LServer.the-laws) (LL.tells RServer.the-type LServer.the-laws) fullShare s vs b o $
         move ! (1 ∷ []) $ peeks ! RServer.the-row (Is RServer.the-row) (shows 𝓤 H A RServer.the-row) s ((LL.vals RServer.the-type LServer.the-laws) s) (λ was. drop ! $
-        keep ! (0 ∷ 1 ∷ 2 ∷ 3 ∷ 4 ∷ 5 ∷ 6 ∷ 7 ∷ 8 ∷ 9 ∷ 10 ∷ 11 ∷ 12 ∷ 13 ∷ 14 ∷ 15 ∷ 16 ∷ 17 ∷ 18 ∷ 19 ∷ 20 ∷ 21 ∷ []) $ step-1 𝓣 known-few known-run-listed is-p is-log is-many was l0 l1 l2 l3 l4 l5 l6 l7 l8)))))))))))
+        keep ! (0 ∷ 1 ∷ 2 ∷ 3 ∷ 4 ∷ 5 ∷ 6 ∷ 7 ∷ 8 ∷ 9 ∷ 10 ∷ 11 ∷ 12 ∷ 13 ∷ 14 ∷ 15 ∷ 16 ∷ 17 ∷ 18 ∷ 19 ∷ []) $ step-1 𝓣 known-few known-run-listed is-p is-log is-many was l0 l1 l2 l3 l4 l5 l6 l7))))))))))
 
 module _ {M : Type 1} (𝓤 : URA M) (H : Heap 𝓤) (A : Atoms 𝓤) (W : Given 𝓤 H A) (at-mem : Memory → SProp 𝓤) (routines : Routine → Fun 𝓤) where
   walks : (𝓣 : Tables 𝓤 H) → Triple 𝓤 (𝓣 .C #server-lent·running·few) (C-few 𝓤 H A at-mem routines) → Triple 𝓤 (𝓣 .C #server-lent·running·run-listed) (C-run-listed 𝓤 H A at-mem routines) → Walks 𝓤 H A f.ended stayed (WpFn 𝓤 H (𝓣 .C) (𝓣 .Λ) code.function) (f.clauses 𝓤 H A at-mem routines)
