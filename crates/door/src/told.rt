@@ -4,7 +4,7 @@ use crate::Answer;
 use crate::Counted;
 use crate::Taken;
 use server::Record;
-use server_lent::planning::Planned;
+use server_plan::Planned;
 
 pub fn planned_counted(p: Planned) -> Counted
     ensures { λ r. ⌜ r ≡ record { refusal = p .refusal; many = p .many } ⌝ }

@@ -10,19 +10,19 @@ use Rattle.door.specs.declared.Counted.{Counted}
 use Rattle.wire.specs.declared.Decoded.{Decoded}
 use Rattle.drive.specs.declared.Drive.{Drive}
 use Rattle.door.specs.declared.Due.{Due}
-use Rattle.server_lent.specs.declared.stepping.Earlier.{Earlier}
+use Rattle.server_read.specs.declared.stepping.Earlier.{Earlier}
 use Rattle.encoding.specs.declared.Encoded.{Encoded}
-use Rattle.server_lent.specs.declared.form.Form.{Form}
+use Rattle.server_read.specs.declared.form.Form.{Form}
 use Rattle.server.specs.declared.Log.{Log}
 use Rattle.door.specs.declared.LogEntry.{LogEntry}
 use Rattle.wire.specs.declared.Message.{Message}
-use Rattle.server_lent.specs.declared.wanting.Named.{Named}
+use Rattle.server_read.specs.declared.wanting.Named.{Named}
 use Rattle.rules.specs.declared.Pieces.{Pieces}
-use Rattle.server_lent.specs.declared.running.Plan.{Plan}
+use Rattle.server_plan.specs.declared.Plan.{Plan}
 use Rattle.door.specs.declared.Reading.{Reading}
 use Rattle.server.specs.declared.Server.{Server}
 use Rattle.rules.specs.declared.Values.{Values}
-use Rattle.server_lent.specs.declared.planning.Waiting.{Waiting}
+use Rattle.server_plan.specs.declared.Waiting.{Waiting}
 use Rattle.server.specs.declared.Wants.{Wants}
 use Rattle.door.specs.Exchange.{heardOf, post, take, takeReply}
 use Rattle.door.specs.Readings.{counter, logEntry, result}
@@ -33,10 +33,10 @@ use Rattle.encoding.specs.Answers.{answer}
 use Rattle.server.specs.Host.{fresh, wanted}
 use Rattle.server.specs.Run.{run, runAll}
 use Rattle.server_lent.specs.First.{recordsFresh}
-use Rattle.server_lent.specs.InPlace.{earlierIn, formBegun, formIn}
 use Rattle.server_lent.specs.Listed.{fewOf, ranListed, ranPieces, ranPlanned, withCounters}
-use Rattle.server_lent.specs.Planning.{waitingIn}
-use Rattle.server_lent.specs.Wanting.{namedIn}
+use Rattle.server_plan.specs.Planning.{waitingIn}
+use Rattle.server_read.specs.InPlace.{earlierIn, formBegun, formIn}
+use Rattle.server_read.specs.Wanting.{namedIn}
 use Rattle.server_run.specs.Limited.{ranUpTo}
 use Rattle.server_step.specs.OneStore.{considered}
 use Rattle.wire.specs.Encoding.{encode}
@@ -53,15 +53,6 @@ server-lent·first·fresh-records s many r r₂ s′ s′₂ m₁ m₂ = (m₁ .
 pub server-lent·first·fresh : (s : Server) (id : ℕ) (r r₂ : ℕ) (s′ s′₂ : Server) → ((r ≡ fresh (s) id .refusal) × (s′ ≡ fresh (s) id .server)) → ((r₂ ≡ fresh (s) id .refusal) × (s′₂ ≡ fresh (s) id .server)) → (r ≡ r₂) × (s′ ≡ s′₂)
 server-lent·first·fresh s id r r₂ s′ s′₂ m₁ m₂ = (m₁ .0 ∙ sym (m₂ .0), m₁ .1 ∙ sym (m₂ .1))
 
-pub server-lent·form·head : (s : Server) (r r₂ : Form) → (r ≡ formBegun (s .id) (s .log)) → (r₂ ≡ formBegun (s .id) (s .log)) → r ≡ r₂
-server-lent·form·head s r r₂ m₁ m₂ = m₁ ∙ sym m₂
-
-pub server-lent·form·form-in : (s : Server) (a0 : Form) (many : ℕ) (r r₂ : Form) → (r ≡ formIn (s) a0 many) → (r₂ ≡ formIn (s) a0 many) → r ≡ r₂
-server-lent·form·form-in s a0 many r r₂ m₁ m₂ = m₁ ∙ sym m₂
-
-pub server-lent·planning·waiting-in : (s : Server) (word : ℕ) (many : ℕ) (r r₂ : Waiting) → (r ≡ waitingIn (s) word many) → (r₂ ≡ waitingIn (s) word many) → r ≡ r₂
-server-lent·planning·waiting-in s word many r r₂ m₁ m₂ = m₁ ∙ sym m₂
-
 pub server-lent·running·run-pieces : (s : Server) (ps : Pieces) (k : ℕ) (many : ℕ) (r r₂ : Values) (s′ s′₂ : Server) → ((r ≡ ranPieces ps k (s .counters) many .values) × (s′ ≡ withCounters (s) (ranPieces ps k (s .counters) many .counters))) → ((r₂ ≡ ranPieces ps k (s .counters) many .values) × (s′₂ ≡ withCounters (s) (ranPieces ps k (s .counters) many .counters))) → (r ≡ r₂) × (s′ ≡ s′₂)
 server-lent·running·run-pieces s ps k many r r₂ s′ s′₂ m₁ m₂ = (m₁ .0 ∙ sym (m₂ .0), m₁ .1 ∙ sym (m₂ .1))
 
@@ -71,17 +62,26 @@ server-lent·running·run-listed s p many r r₂ s′ s′₂ m₁ m₂ = (m₁ 
 pub server-lent·running·run-planned : (s : Server) (p : Plan) (log : Log) (many : ℕ) (r r₂ : ℕ) (s′ s′₂ : Server) → ((r ≡ fewOf many) × (s′ ≡ ranPlanned p log many (s))) → ((r₂ ≡ fewOf many) × (s′₂ ≡ ranPlanned p log many (s))) → (r ≡ r₂) × (s′ ≡ s′₂)
 server-lent·running·run-planned s p log many r r₂ s′ s′₂ m₁ m₂ = (m₁ .0 ∙ sym (m₂ .0), m₁ .1 ∙ sym (m₂ .1))
 
-pub server-lent·stepping·earlier-in : (s : Server) (a0 : Earlier) (many : ℕ) (r r₂ : Earlier) → (r ≡ earlierIn (s) a0 many) → (r₂ ≡ earlierIn (s) a0 many) → r ≡ r₂
-server-lent·stepping·earlier-in s a0 many r r₂ m₁ m₂ = m₁ ∙ sym m₂
+pub server-plan·waiting-in : (s : Server) (word : ℕ) (many : ℕ) (r r₂ : Waiting) → (r ≡ waitingIn (s) word many) → (r₂ ≡ waitingIn (s) word many) → r ≡ r₂
+server-plan·waiting-in s word many r r₂ m₁ m₂ = m₁ ∙ sym m₂
 
-pub server-lent·stepping·consider : (s : Server) (m : Message) (r r₂ : Considered) → (r ≡ considered (s) m) → (r₂ ≡ considered (s) m) → r ≡ r₂
-server-lent·stepping·consider s m r r₂ m₁ m₂ = m₁ ∙ sym m₂
+pub server-read·form·head : (s : Server) (r r₂ : Form) → (r ≡ formBegun (s .id) (s .log)) → (r₂ ≡ formBegun (s .id) (s .log)) → r ≡ r₂
+server-read·form·head s r r₂ m₁ m₂ = m₁ ∙ sym m₂
 
-pub server-lent·wanting·named-in : (s : Server) (a0 : Named) (many : ℕ) (r r₂ : Named) → (r ≡ namedIn (s) a0 many) → (r₂ ≡ namedIn (s) a0 many) → r ≡ r₂
-server-lent·wanting·named-in s a0 many r r₂ m₁ m₂ = m₁ ∙ sym m₂
+pub server-read·form·form-in : (s : Server) (a0 : Form) (many : ℕ) (r r₂ : Form) → (r ≡ formIn (s) a0 many) → (r₂ ≡ formIn (s) a0 many) → r ≡ r₂
+server-read·form·form-in s a0 many r r₂ m₁ m₂ = m₁ ∙ sym m₂
 
-pub server-lent·wanting·wanted : (s : Server) (r r₂ : Wants) → (r ≡ wanted (s)) → (r₂ ≡ wanted (s)) → r ≡ r₂
-server-lent·wanting·wanted s r r₂ m₁ m₂ = m₁ ∙ sym m₂
+pub server-read·stepping·earlier-in : (s : Server) (a0 : Earlier) (many : ℕ) (r r₂ : Earlier) → (r ≡ earlierIn (s) a0 many) → (r₂ ≡ earlierIn (s) a0 many) → r ≡ r₂
+server-read·stepping·earlier-in s a0 many r r₂ m₁ m₂ = m₁ ∙ sym m₂
+
+pub server-read·stepping·consider : (s : Server) (m : Message) (r r₂ : Considered) → (r ≡ considered (s) m) → (r₂ ≡ considered (s) m) → r ≡ r₂
+server-read·stepping·consider s m r r₂ m₁ m₂ = m₁ ∙ sym m₂
+
+pub server-read·wanting·named-in : (s : Server) (a0 : Named) (many : ℕ) (r r₂ : Named) → (r ≡ namedIn (s) a0 many) → (r₂ ≡ namedIn (s) a0 many) → r ≡ r₂
+server-read·wanting·named-in s a0 many r r₂ m₁ m₂ = m₁ ∙ sym m₂
+
+pub server-read·wanting·wanted : (s : Server) (r r₂ : Wants) → (r ≡ wanted (s)) → (r₂ ≡ wanted (s)) → r ≡ r₂
+server-read·wanting·wanted s r r₂ m₁ m₂ = m₁ ∙ sym m₂
 
 pub station·messages·drobulets-encode : (message : Message) (output : List ℕ) (r r₂ : Encoded) (output′ output′₂ : List ℕ) → ((r ≡ answer (encode (message) (output))) × (output′ ≡ encode (message) (output) .buffer)) → ((r₂ ≡ answer (encode (message) (output))) × (output′₂ ≡ encode (message) (output) .buffer)) → (r ≡ r₂) × (output′ ≡ output′₂)
 station·messages·drobulets-encode message output r r₂ output′ output′₂ m₁ m₂ = (m₁ .0 ∙ sym (m₂ .0), m₁ .1 ∙ sym (m₂ .1))

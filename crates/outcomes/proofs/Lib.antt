@@ -18,6 +18,8 @@ pub mod Rules
 pub mod ServerChange
 pub mod ServerForm
 pub mod ServerLent
+pub mod ServerPlan
+pub mod ServerRead
 pub mod ServerRun
 pub mod ServerStep
 pub mod Station

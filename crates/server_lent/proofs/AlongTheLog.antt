@@ -18,7 +18,7 @@ use Rattle.counters.specs.Effects.{execute}
 use Rattle.counters.proofs.PerKey.{counters-length}
 use Rattle.server.specs.Held.{recordAt, putRecord, shard, entryAt, append}
 use Rattle.server.specs.Run.{withResults, nextRun, runOne, runGroup, turns}
-use Rattle.server_lent.specs.declared.running.Plan.{Plan}
+use Rattle.server_plan.specs.declared.Plan.{Plan}
 use Rattle.server_lent.specs.Listed.{ranPieces, withCounters, listedAt, ranAt, ranListed, fewOf, ranPlanned}
 use Rattle.server_lent.proofs.RunInPlace.{pieces-run, few-all}
 

@@ -20,7 +20,7 @@ use Rattle.server.specs.Host.{fresh, freshServer}
 use Rattle.server.proofs.Server as RServer
 use Rattle.server.proofs.Server.Laws as LServer
 use Rattle.server_lent.specs.First.{refusalOf, manyOf, idOf, countersOf, logOf, recordsFresh}
-use Rattle.server_lent.proofs.Sizes.{records-long}
+use Rattle.server_read.proofs.Sizes.{records-long}
 
 abbrev with-records : Server → List Record → Server
 with-records s l = record { id = s .id; records = l; counters = s .counters; log = s .log }

@@ -1,9 +1,4 @@
-pub mod Sizes
-pub mod StepInPlace
-pub mod WantedInPlace
 pub mod RunInPlace
 pub mod AlongTheLog
-pub mod PlanTurns
-pub mod PlanIsRuns
 pub mod RunsInPlace
 pub mod FirstInPlace

@@ -26,7 +26,7 @@ use Rattle.counters.proofs.Results.{count-after}
 use Rattle.counters.proofs.PerKey.{begun, length-after}
 use Rattle.server_step.specs.OneStore.{placeOf}
 use Rattle.server_step.proofs.StepIsServe.{place-lt}
-use Rattle.server_lent.specs.declared.running.Plan.{Plan}
+use Rattle.server_plan.specs.declared.Plan.{Plan}
 use Rattle.server.specs.declared.Log.{Log}
 use Rattle.server.specs.declared.Record.{Record}
 use Rattle.server.specs.declared.Server.{Server}

@@ -28,21 +28,21 @@ use Rattle.server_run.specs.Gathered.{unrunAt}
 use Rattle.server_run.specs.Limited.{allowed, refusalOf, ranUpTo}
 use Rattle.server_run.proofs.Gathering.{named-deps}
 use Rattle.server_run.proofs.Turning.{up-to}
-use Rattle.server_lent.specs.InPlace.{formBegun, formIn}
-use Rattle.server_lent.proofs.StepInPlace.{whole-form}
-use Rattle.server_lent.specs.declared.form.Form.{Form}
-use Rattle.server_lent.specs.declared.running.Plan.{Plan}
-use Rattle.server_lent.specs.declared.planning.Planned.{Planned}
-use Rattle.server_lent.specs.declared.planning.Waiting.{Waiting}
+use Rattle.server_read.specs.InPlace.{formBegun, formIn}
+use Rattle.server_read.proofs.StepInPlace.{whole-form}
+use Rattle.server_read.specs.declared.form.Form.{Form}
+use Rattle.server_plan.specs.declared.Plan.{Plan}
+use Rattle.server_plan.specs.declared.Planned.{Planned}
+use Rattle.server_plan.specs.declared.Waiting.{Waiting}
 use Rattle.server_lent.specs.Listed.{spotOf, listedAt, ranPlanned}
-use Rattle.server_lent.specs.Planning.{unrunOf, committedWith, waitingTurn, waitingIn, noted, loggedOf, plannedLog, plannedBy}
+use Rattle.server_plan.specs.Planning.{unrunOf, committedWith, waitingTurn, waitingIn, noted, loggedOf, plannedLog, plannedBy}
 use Rattle.server_lent.proofs.AlongTheLog.{risen, runs, order, turns-runs, count-after, entry-after, plan-runs}
 use Rattle.server.proofs.Server as RServer
 use Rattle.server.proofs.Server.Laws as LServer
 use denote.Laws.{Is}
 use denote.Struct.Laws as LL
-use Rattle.server_lent.proofs.Sizes.{records-long, counters-long, log-long, words-small}
-use Rattle.server_lent.proofs.PlanIsRuns.{plan-is}
+use Rattle.server_read.proofs.Sizes.{records-long, counters-long, log-long, words-small}
+use Rattle.server_plan.proofs.PlanIsRuns.{plan-is}
 
 -- ---- the log of a plan has room
 

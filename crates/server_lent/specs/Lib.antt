@@ -1,5 +1,2 @@
-pub mod InPlace
 pub mod Listed
-pub mod Wanting
-pub mod Planning
 pub mod First

@@ -21,7 +21,7 @@ use Rattle.server.specs.declared.Server.{Server}
 use Rattle.server.specs.Held.{recordAt, putRecord}
 use Rattle.server.specs.Run.{withResults}
 use Rattle.server_step.specs.OneStore.{placeOf}
-use Rattle.server_lent.specs.declared.running.Plan.{Plan}
+use Rattle.server_plan.specs.declared.Plan.{Plan}
 
 -- ---- the pieces of a number
 

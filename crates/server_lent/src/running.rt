@@ -11,14 +11,8 @@ use rules::Values;
 use rules::transaction::used;
 use server::Log;
 use server::Server;
+use server_plan::Plan;
 use server_step::record::place_of;
-
-// What is to run: the numbers of the log from the place `first` on, at this shard.
-pub struct Plan {
-    pub shard: u32,
-    pub first: u32,
-    pub list: [u32; 64],
-}
 
 // Where the plan has its number `t`, or any place where it has none.
 pub fn spot(first: u32, t: usize) -> usize

@@ -20,7 +20,7 @@ use Rattle.server_step.proofs.StepIsServe.{place-lt}
 use Rattle.server_run.specs.Limited.{ranUpTo}
 use Rattle.server_run.proofs.Turning.{run-once, run-until}
 use Rattle.server_lent.specs.Listed.{ranPlanned}
-use Rattle.server_lent.proofs.Sizes.{records-long}
+use Rattle.server_read.proofs.Sizes.{records-long}
 use Rattle.server_lent.proofs.RunsInPlace.{planned, planned-refusal, planned-many, planned-server}
 use Rattle.rules.specs.Flags.{there}
 use Rattle.drive.specs.declared.Drive.{Drive}

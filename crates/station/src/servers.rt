@@ -42,15 +42,15 @@ pub extern "C" fn drobulets_server_take(s: &mut Server, input: &[u8], output: &m
 pub fn runs(s: &mut Server, limit: u32) -> Counted
     ensures { λ r. ⌜ (r ≡ counted (ranUpTo limit (now (s .entry)))) × (now (s .exit) ≡ ranUpTo limit (now (s .entry)) .server) ⌝ }
 {
-    let f0 = server_lent::form::head(&*s);
-    let f = server_lent::form::form_in(&*s, f0, 64);
-    let w = server_lent::form::form_word(f);
-    let d = server_lent::planning::waiting_in(&*s, w, 64);
+    let f0 = server_read::form::head(&*s);
+    let f = server_read::form::form_in(&*s, f0, 64);
+    let w = server_read::form::form_word(f);
+    let d = server_plan::waiting_in(&*s, w, 64);
     let log = s.log;
-    let p = server_lent::planning::plan_by(f, d, log, limit);
-    let plan = server_lent::planning::planned_plan(p);
-    let end = server_lent::planning::planned_end(p);
-    let many = server_lent::planning::planned_many(p);
+    let p = server_plan::plan_by(f, d, log, limit);
+    let plan = server_plan::planned_plan(p);
+    let end = server_plan::planned_end(p);
+    let many = server_plan::planned_many(p);
     let done = server_lent::running::run_planned(&mut *s, plan, end, many);
     door::told::planned_counted(p)
 }
@@ -76,7 +76,7 @@ pub extern "C" fn drobulets_server_run_all(s: &mut Server) -> Counted
 pub extern "C" fn drobulets_server_wanted(s: &Server) -> Wants
     ensures { λ r. ⌜ r ≡ wanted (now (s .entry)) ⌝ }
 {
-    server_lent::wanting::wanted(s)
+    server_read::wanting::wanted(s)
 }
 
 // The counter of a key. Readers judge nothing.

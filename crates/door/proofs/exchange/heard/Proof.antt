@@ -53,10 +53,10 @@ use Rattle.door.proofs.exchange.message_of as fn-message-of
 use Rattle.door.proofs.exchange.message_of.Symbol as def-message-of
 use Rattle.door.proofs.exchange.message_of.Symbol.{name as #door·exchange·message-of}
 use Rattle.door.proofs.exchange.message_of.Met as met-message-of
-use Rattle.server_lent.proofs.stepping.consider as fn-consider
-use Rattle.server_lent.proofs.stepping.consider.Symbol as def-consider
-use Rattle.server_lent.proofs.stepping.consider.Symbol.{name as #server-lent·stepping·consider}
-use Rattle.server_lent.proofs.stepping.consider.Met as met-consider
+use Rattle.server_read.proofs.stepping.consider as fn-consider
+use Rattle.server_read.proofs.stepping.consider.Symbol as def-consider
+use Rattle.server_read.proofs.stepping.consider.Symbol.{name as #server-lent·stepping·consider}
+use Rattle.server_read.proofs.stepping.consider.Met as met-consider
 use Rattle.door.proofs.exchange.judged as fn-judged
 use Rattle.door.proofs.exchange.judged.Symbol as def-judged
 use Rattle.door.proofs.exchange.judged.Symbol.{name as #door·exchange·judged}
@@ -177,7 +177,7 @@ module _ {M : Type 1} (𝓤 : URA M) (H : Heap 𝓤) (A : Atoms 𝓤) (W : Given
 
     step-2 : (is-1 : Is RMessage.the-row (told-1 s d) ((LL.val RMessage.the-type LMessage.the-laws (told-1 s d)) ∷ [])) → Sq W (‵ (flft κ q) ∷ ‵ lent ∷ ‵ (froom LConsidered.mir l4 zero) ∷ ‵ (fdies LConsidered.mir l4) ∷ ‵ (fat fullShare LMessage.mir l3 zero (LL.val RMessage.the-type LMessage.the-laws (told-1 s d))) ∷ ‵ (fdies LMessage.mir l3) ∷ ‵ (fat fullShare LDecoded.mir l2 zero (LL.val RDecoded.the-type LDecoded.the-laws d)) ∷ ‵ (fdies LDecoded.mir l2) ∷ ‵ (fat fullShare (tyRef (named 0) imm (pointee (RServer.the-row .written))) l1 zero (vptr b o)) ∷ ‵ (fdies (tyRef (named 0) imm (pointee (RServer.the-row .written))) l1) ∷ ‵ (froom LConsidered.mir l0 zero) ∷ ‵ (fdies LConsidered.mir l0) ∷ []) (runs (𝓣 .C) (𝓣 .Λ) En code-mir.t-2 (atRet En Post))
     step-2 is-1 =
-        -- server_lent::stepping::consider
+        -- server_read::stepping::consider
         move ! (1 ∷ []) $ use1 W (‵ lent ⊛ ‵ lent) (shr-copy 𝓤 H A W (named 0) κ RServer.the-row .twice sr (vptr b o ∷ [])) $ split ! $ move ! (2 ∷ 0 ∷ []) $ use2 W (raw (C-consider 𝓤 H A at-mem routines .pre (to-2))) (goes-2 is-1) $
         calls-at ! (fmOf 𝓤 H (W .laws) 𝓣) (C-consider 𝓤 H A at-mem routines) known-consider (to-2) (and-then ! (load ! (from ! (stop !)) (look ! 8 refl)) (and-then ! (load ! (from ! (stop !)) (look ! 4 refl)) (no-more !))) (λ v.
         use1 W (later (some (λ (r : Considered). ((‵ (flft κ q) ⊛ ‵ ftrue) ⊛ ‵ (RConsidered.the-row .own r (v ∷ []))) ⊛ raw (ensured 𝓤 H A fn-consider.ended (fn-consider.clauses 𝓤 H A at-mem routines) (κ, tt) (sr, ((told-1 s d), tt)) tt r)))) (id⊢ 𝓤 _) $ await ! tt $ pick ! (λ x.

@@ -42,10 +42,10 @@ use Rattle.server.proofs.Server.Laws as LServer
 use Rattle.server.specs.declared.Wants.{Wants}
 use Rattle.server.proofs.Wants as RWants
 use Rattle.server.proofs.Wants.Laws as LWants
-use Rattle.server_lent.proofs.wanting.wanted as fn-wanted
-use Rattle.server_lent.proofs.wanting.wanted.Symbol as def-wanted
-use Rattle.server_lent.proofs.wanting.wanted.Symbol.{name as #server-lent·wanting·wanted}
-use Rattle.server_lent.proofs.wanting.wanted.Met as met-wanted
+use Rattle.server_read.proofs.wanting.wanted as fn-wanted
+use Rattle.server_read.proofs.wanting.wanted.Symbol as def-wanted
+use Rattle.server_read.proofs.wanting.wanted.Symbol.{name as #server-lent·wanting·wanted}
+use Rattle.server_read.proofs.wanting.wanted.Met as met-wanted
 use Rattle.station.proofs.servers.drobulets_server_wanted.Key.{name as #station·servers·drobulets-server-wanted}
 use Rattle.station.proofs.servers.drobulets_server_wanted as f
 use Rattle.station.proofs.servers.drobulets_server_wanted.Statement as stated
@@ -118,7 +118,7 @@ module _ {M : Type 1} (𝓤 : URA M) (H : Heap 𝓤) (A : Atoms 𝓤) (W : Given
 
     step-1 : Sq W (‵ (flft κ q) ∷ ‵ lent ∷ ‵ (fat fullShare (tyRef (named 0) imm (pointee (RServer.the-row .written))) l1 zero (vptr b o)) ∷ ‵ (fdies (tyRef (named 0) imm (pointee (RServer.the-row .written))) l1) ∷ ‵ (froom LWants.mir l0 zero) ∷ ‵ (fdies LWants.mir l0) ∷ []) (runs (𝓣 .C) (𝓣 .Λ) En code-mir.t-1 (atRet En Post))
     step-1 =
-        -- server_lent::wanting::wanted
+        -- server_read::wanting::wanted
         move ! (1 ∷ []) $ use1 W (‵ lent ⊛ ‵ lent) (shr-copy 𝓤 H A W (named 0) κ RServer.the-row .twice sr (vptr b o ∷ [])) $ split ! $ move ! (2 ∷ 0 ∷ []) $ use2 W (raw (C-wanted 𝓤 H A at-mem routines .pre (to-1))) (goes-1) $
         calls-at ! (fmOf 𝓤 H (W .laws) 𝓣) (C-wanted 𝓤 H A at-mem routines) known-wanted (to-1) (and-then ! (load ! (from ! (stop !)) (look ! 2 refl)) (no-more !)) (λ v.
         use1 W (later (some (λ (r : Wants). ((‵ (flft κ q) ⊛ ‵ ftrue) ⊛ ‵ (RWants.the-row .own r (v ∷ []))) ⊛ raw (ensured 𝓤 H A fn-wanted.ended (fn-wanted.clauses 𝓤 H A at-mem routines) (κ, tt) (sr, tt) tt r)))) (id⊢ 𝓤 _) $ await ! tt $ pick ! (λ x.

@@ -46,8 +46,8 @@ use mir.Raw.{raw as rawTy}
 use denote.Struct.Laws as LL
 use Rattle.server_run.specs.Limited.{ranUpTo}
 use Rattle.door.specs.Told.{counted}
-use Rattle.server_lent.specs.InPlace.{formBegun, formIn}
-use Rattle.server_lent.specs.Planning.{waitingIn, plannedBy}
+use Rattle.server_read.specs.InPlace.{formBegun, formIn}
+use Rattle.server_plan.specs.Planning.{waitingIn, plannedBy}
 use Rattle.server_lent.specs.Listed.{fewOf, ranPlanned}
 use Rattle.station.proofs.Ends.{runs-told, runs-left}
 use Rattle.server.specs.declared.Server.{Server}
@@ -56,53 +56,53 @@ use Rattle.server.proofs.Server.Laws as LServer
 use Rattle.door.specs.declared.Counted.{Counted}
 use Rattle.door.proofs.Counted as RCounted
 use Rattle.door.proofs.Counted.Laws as LCounted
-use Rattle.server_lent.specs.declared.form.Form.{Form}
-use Rattle.server_lent.proofs.form.Form as RForm
-use Rattle.server_lent.proofs.form.Form.Laws as LForm
-use Rattle.server_lent.specs.declared.planning.Waiting.{Waiting}
-use Rattle.server_lent.proofs.planning.Waiting as RWaiting
-use Rattle.server_lent.proofs.planning.Waiting.Laws as LWaiting
+use Rattle.server_read.specs.declared.form.Form.{Form}
+use Rattle.server_read.proofs.form.Form as RForm
+use Rattle.server_read.proofs.form.Form.Laws as LForm
+use Rattle.server_plan.specs.declared.Waiting.{Waiting}
+use Rattle.server_plan.proofs.Waiting as RWaiting
+use Rattle.server_plan.proofs.Waiting.Laws as LWaiting
 use Rattle.server.specs.declared.Log.{Log}
 use Rattle.server.proofs.Log as RLog
 use Rattle.server.proofs.Log.Laws as LLog
-use Rattle.server_lent.specs.declared.planning.Planned.{Planned}
-use Rattle.server_lent.proofs.planning.Planned as RPlanned
-use Rattle.server_lent.proofs.planning.Planned.Laws as LPlanned
-use Rattle.server_lent.specs.declared.running.Plan.{Plan}
-use Rattle.server_lent.proofs.running.Plan as RPlan
-use Rattle.server_lent.proofs.running.Plan.Laws as LPlan
-use Rattle.server_lent.proofs.form.head as fn-head
-use Rattle.server_lent.proofs.form.head.Symbol as def-head
-use Rattle.server_lent.proofs.form.head.Symbol.{name as #server-lent·form·head}
-use Rattle.server_lent.proofs.form.head.Met as met-head
-use Rattle.server_lent.proofs.form.form_in as fn-form-in
-use Rattle.server_lent.proofs.form.form_in.Symbol as def-form-in
-use Rattle.server_lent.proofs.form.form_in.Symbol.{name as #server-lent·form·form-in}
-use Rattle.server_lent.proofs.form.form_in.Met as met-form-in
-use Rattle.server_lent.proofs.form.form_word as fn-form-word
-use Rattle.server_lent.proofs.form.form_word.Symbol as def-form-word
-use Rattle.server_lent.proofs.form.form_word.Symbol.{name as #server-lent·form·form-word}
-use Rattle.server_lent.proofs.form.form_word.Met as met-form-word
-use Rattle.server_lent.proofs.planning.waiting_in as fn-waiting-in
-use Rattle.server_lent.proofs.planning.waiting_in.Symbol as def-waiting-in
-use Rattle.server_lent.proofs.planning.waiting_in.Symbol.{name as #server-lent·planning·waiting-in}
-use Rattle.server_lent.proofs.planning.waiting_in.Met as met-waiting-in
-use Rattle.server_lent.proofs.planning.plan_by as fn-plan-by
-use Rattle.server_lent.proofs.planning.plan_by.Symbol as def-plan-by
-use Rattle.server_lent.proofs.planning.plan_by.Symbol.{name as #server-lent·planning·plan-by}
-use Rattle.server_lent.proofs.planning.plan_by.Met as met-plan-by
-use Rattle.server_lent.proofs.planning.planned_plan as fn-planned-plan
-use Rattle.server_lent.proofs.planning.planned_plan.Symbol as def-planned-plan
-use Rattle.server_lent.proofs.planning.planned_plan.Symbol.{name as #server-lent·planning·planned-plan}
-use Rattle.server_lent.proofs.planning.planned_plan.Met as met-planned-plan
-use Rattle.server_lent.proofs.planning.planned_end as fn-planned-end
-use Rattle.server_lent.proofs.planning.planned_end.Symbol as def-planned-end
-use Rattle.server_lent.proofs.planning.planned_end.Symbol.{name as #server-lent·planning·planned-end}
-use Rattle.server_lent.proofs.planning.planned_end.Met as met-planned-end
-use Rattle.server_lent.proofs.planning.planned_many as fn-planned-many
-use Rattle.server_lent.proofs.planning.planned_many.Symbol as def-planned-many
-use Rattle.server_lent.proofs.planning.planned_many.Symbol.{name as #server-lent·planning·planned-many}
-use Rattle.server_lent.proofs.planning.planned_many.Met as met-planned-many
+use Rattle.server_plan.specs.declared.Planned.{Planned}
+use Rattle.server_plan.proofs.Planned as RPlanned
+use Rattle.server_plan.proofs.Planned.Laws as LPlanned
+use Rattle.server_plan.specs.declared.Plan.{Plan}
+use Rattle.server_plan.proofs.Plan as RPlan
+use Rattle.server_plan.proofs.Plan.Laws as LPlan
+use Rattle.server_read.proofs.form.head as fn-head
+use Rattle.server_read.proofs.form.head.Symbol as def-head
+use Rattle.server_read.proofs.form.head.Symbol.{name as #server-lent·form·head}
+use Rattle.server_read.proofs.form.head.Met as met-head
+use Rattle.server_read.proofs.form.form_in as fn-form-in
+use Rattle.server_read.proofs.form.form_in.Symbol as def-form-in
+use Rattle.server_read.proofs.form.form_in.Symbol.{name as #server-lent·form·form-in}
+use Rattle.server_read.proofs.form.form_in.Met as met-form-in
+use Rattle.server_read.proofs.form.form_word as fn-form-word
+use Rattle.server_read.proofs.form.form_word.Symbol as def-form-word
+use Rattle.server_read.proofs.form.form_word.Symbol.{name as #server-lent·form·form-word}
+use Rattle.server_read.proofs.form.form_word.Met as met-form-word
+use Rattle.server_plan.proofs.waiting_in as fn-waiting-in
+use Rattle.server_plan.proofs.waiting_in.Symbol as def-waiting-in
+use Rattle.server_plan.proofs.waiting_in.Symbol.{name as #server-lent·planning·waiting-in}
+use Rattle.server_plan.proofs.waiting_in.Met as met-waiting-in
+use Rattle.server_plan.proofs.plan_by as fn-plan-by
+use Rattle.server_plan.proofs.plan_by.Symbol as def-plan-by
+use Rattle.server_plan.proofs.plan_by.Symbol.{name as #server-lent·planning·plan-by}
+use Rattle.server_plan.proofs.plan_by.Met as met-plan-by
+use Rattle.server_plan.proofs.planned_plan as fn-planned-plan
+use Rattle.server_plan.proofs.planned_plan.Symbol as def-planned-plan
+use Rattle.server_plan.proofs.planned_plan.Symbol.{name as #server-lent·planning·planned-plan}
+use Rattle.server_plan.proofs.planned_plan.Met as met-planned-plan
+use Rattle.server_plan.proofs.planned_end as fn-planned-end
+use Rattle.server_plan.proofs.planned_end.Symbol as def-planned-end
+use Rattle.server_plan.proofs.planned_end.Symbol.{name as #server-lent·planning·planned-end}
+use Rattle.server_plan.proofs.planned_end.Met as met-planned-end
+use Rattle.server_plan.proofs.planned_many as fn-planned-many
+use Rattle.server_plan.proofs.planned_many.Symbol as def-planned-many
+use Rattle.server_plan.proofs.planned_many.Symbol.{name as #server-lent·planning·planned-many}
+use Rattle.server_plan.proofs.planned_many.Met as met-planned-many
 use Rattle.server_lent.proofs.running.run_planned as fn-run-planned
 use Rattle.server_lent.proofs.running.run_planned.Symbol as def-run-planned
 use Rattle.server_lent.proofs.running.run_planned.Symbol.{name as #server-lent·running·run-planned}
@@ -375,7 +375,7 @@ module _ {M : Type 1} (𝓤 : URA M) (H : Heap 𝓤) (A : Atoms 𝓤) (W : Given
 
     step-12 : (is-1 : Is RForm.the-row (told-1 s limit) ((LL.val RForm.the-type LForm.the-laws (told-1 s limit)) ∷ [])) (is-3 : Is RForm.the-row (told-3 s limit) ((LL.val RForm.the-type LForm.the-laws (told-3 s limit)) ∷ [])) (is-5 : Is usize (told-5 s limit) ((vint w64 (told-5 s limit)) ∷ [])) (is-6 : Is RWaiting.the-row (told-6 s limit) ((LL.val RWaiting.the-type LWaiting.the-laws (told-6 s limit)) ∷ [])) (is-8 : Is RLog.the-row (s .log) ((LL.val RLog.the-type LLog.the-laws (s .log)) ∷ [])) (is-9 : Is RPlanned.the-row (told-9 s limit) ((LL.val RPlanned.the-type LPlanned.the-laws (told-9 s limit)) ∷ [])) (is-10 : Is RPlan.the-row (told-10 s limit) ((LL.val RPlan.the-type LPlan.the-laws (told-10 s limit)) ∷ [])) (is-11 : Is RLog.the-row (told-11 s limit) ((LL.val RLog.the-type LLog.the-laws (told-11 s limit)) ∷ [])) → Sq W (‵ (cellAt fullShare (RServer.the-row .mir) ((LL.vals RServer.the-type LServer.the-laws) s) b o) ∷ ‵ (fobor κ q (Body (mem RServer.the-row) b o γ)) ∷ ‵ (fobs γ (RServer.the-row .coded .code s)) ∷ ‵ (fauth γ (RServer.the-row .coded .code s)) ∷ ‵ (froom (tyRef erased mut (pointee (RServer.the-row .written))) l16 zero) ∷ ‵ (fdies (tyRef erased mut (pointee (RServer.the-row .written))) l16) ∷ ‵ (fat fullShare (tyRef erased imm (pointee (RServer.the-row .written))) l15 zero (vptr b o)) ∷ ‵ (fdies (tyRef erased imm (pointee (RServer.the-row .written))) l15) ∷ ‵ (fat fullShare (tyRef erased imm (pointee (RServer.the-row .written))) l14 zero (vptr b o)) ∷ ‵ (fdies (tyRef erased imm (pointee (RServer.the-row .written))) l14) ∷ ‵ (fat fullShare (tyRef erased imm (pointee (RServer.the-row .written))) l13 zero (vptr b o)) ∷ ‵ (fdies (tyRef erased imm (pointee (RServer.the-row .written))) l13) ∷ ‵ (froom (tyInt w64) l12 zero) ∷ ‵ (fdies (tyInt w64) l12) ∷ ‵ (froom (tyInt w64) l11 zero) ∷ ‵ (fdies (tyInt w64) l11) ∷ ‵ (fat fullShare LLog.mir l10 zero (LL.val RLog.the-type LLog.the-laws (told-11 s limit))) ∷ ‵ (fdies LLog.mir l10) ∷ ‵ (fat fullShare LPlan.mir l9 zero (LL.val RPlan.the-type LPlan.the-laws (told-10 s limit))) ∷ ‵ (fdies LPlan.mir l9) ∷ ‵ (fat fullShare LPlanned.mir l8 zero (LL.val RPlanned.the-type LPlanned.the-laws (told-9 s limit))) ∷ ‵ (fdies LPlanned.mir l8) ∷ ‵ (fat fullShare LLog.mir l7 zero (LL.val RLog.the-type LLog.the-laws (s .log))) ∷ ‵ (fdies LLog.mir l7) ∷ ‵ (fat fullShare LWaiting.mir l6 zero (LL.val RWaiting.the-type LWaiting.the-laws (told-6 s limit))) ∷ ‵ (fdies LWaiting.mir l6) ∷ ‵ (fat fullShare (tyInt w64) l5 zero (vint w64 (told-5 s limit))) ∷ ‵ (fdies (tyInt w64) l5) ∷ ‵ (fat fullShare LForm.mir l4 zero (LL.val RForm.the-type LForm.the-laws (told-3 s limit))) ∷ ‵ (fdies LForm.mir l4) ∷ ‵ (fat fullShare LForm.mir l3 zero (LL.val RForm.the-type LForm.the-laws (told-1 s limit))) ∷ ‵ (fdies LForm.mir l3) ∷ ‵ (fat fullShare (tyInt w32) l2 zero (vint w32 limit)) ∷ ‵ (fdies (tyInt w32) l2) ∷ ‵ (fat fullShare (tyRef (named 0) mut (pointee (RServer.the-row .written))) l1 zero (vptr b o)) ∷ ‵ (fdies (tyRef (named 0) mut (pointee (RServer.the-row .written))) l1) ∷ ‵ (froom LCounted.mir l0 zero) ∷ ‵ (fdies LCounted.mir l0) ∷ []) (runs (𝓣 .C) (𝓣 .Λ) En code-mir.t-12 (atRet En Post))
     step-12 is-1 is-3 is-5 is-6 is-8 is-9 is-10 is-11 =
-        -- server_lent::planning::planned_many
+        -- server_plan::planned_many
         use0 W (raw (C-planned-many 𝓤 H A at-mem routines .pre (to-12))) (goes-12 is-9) $
         calls-at ! (fmOf 𝓤 H (W .laws) 𝓣) (C-planned-many 𝓤 H A at-mem routines) known-planned-many (to-12) (and-then ! (load ! (from ! (stop !)) (look ! 21 refl)) (no-more !)) (λ v.
         use1 W (later (some (λ (r : ℕ). ((‵ ftrue) ⊛ ‵ (usize .own r (v ∷ []))) ⊛ raw (ensured 𝓤 H A fn-planned-many.ended (fn-planned-many.clauses 𝓤 H A at-mem routines) tt ((told-9 s limit), tt) tt r)))) (id⊢ 𝓤 _) $ await ! tt $ pick ! (λ x.
@@ -387,7 +387,7 @@ module _ {M : Type 1} (𝓤 : URA M) (H : Heap 𝓤) (A : Atoms 𝓤) (W : Given
 
     step-11 : (is-1 : Is RForm.the-row (told-1 s limit) ((LL.val RForm.the-type LForm.the-laws (told-1 s limit)) ∷ [])) (is-3 : Is RForm.the-row (told-3 s limit) ((LL.val RForm.the-type LForm.the-laws (told-3 s limit)) ∷ [])) (is-5 : Is usize (told-5 s limit) ((vint w64 (told-5 s limit)) ∷ [])) (is-6 : Is RWaiting.the-row (told-6 s limit) ((LL.val RWaiting.the-type LWaiting.the-laws (told-6 s limit)) ∷ [])) (is-8 : Is RLog.the-row (s .log) ((LL.val RLog.the-type LLog.the-laws (s .log)) ∷ [])) (is-9 : Is RPlanned.the-row (told-9 s limit) ((LL.val RPlanned.the-type LPlanned.the-laws (told-9 s limit)) ∷ [])) (is-10 : Is RPlan.the-row (told-10 s limit) ((LL.val RPlan.the-type LPlan.the-laws (told-10 s limit)) ∷ [])) → Sq W (‵ (cellAt fullShare (RServer.the-row .mir) ((LL.vals RServer.the-type LServer.the-laws) s) b o) ∷ ‵ (fobor κ q (Body (mem RServer.the-row) b o γ)) ∷ ‵ (fobs γ (RServer.the-row .coded .code s)) ∷ ‵ (fauth γ (RServer.the-row .coded .code s)) ∷ ‵ (froom (tyRef erased mut (pointee (RServer.the-row .written))) l16 zero) ∷ ‵ (fdies (tyRef erased mut (pointee (RServer.the-row .written))) l16) ∷ ‵ (fat fullShare (tyRef erased imm (pointee (RServer.the-row .written))) l15 zero (vptr b o)) ∷ ‵ (fdies (tyRef erased imm (pointee (RServer.the-row .written))) l15) ∷ ‵ (fat fullShare (tyRef erased imm (pointee (RServer.the-row .written))) l14 zero (vptr b o)) ∷ ‵ (fdies (tyRef erased imm (pointee (RServer.the-row .written))) l14) ∷ ‵ (fat fullShare (tyRef erased imm (pointee (RServer.the-row .written))) l13 zero (vptr b o)) ∷ ‵ (fdies (tyRef erased imm (pointee (RServer.the-row .written))) l13) ∷ ‵ (froom (tyInt w64) l12 zero) ∷ ‵ (fdies (tyInt w64) l12) ∷ ‵ (froom (tyInt w64) l11 zero) ∷ ‵ (fdies (tyInt w64) l11) ∷ ‵ (froom LLog.mir l10 zero) ∷ ‵ (fdies LLog.mir l10) ∷ ‵ (fat fullShare LPlan.mir l9 zero (LL.val RPlan.the-type LPlan.the-laws (told-10 s limit))) ∷ ‵ (fdies LPlan.mir l9) ∷ ‵ (fat fullShare LPlanned.mir l8 zero (LL.val RPlanned.the-type LPlanned.the-laws (told-9 s limit))) ∷ ‵ (fdies LPlanned.mir l8) ∷ ‵ (fat fullShare LLog.mir l7 zero (LL.val RLog.the-type LLog.the-laws (s .log))) ∷ ‵ (fdies LLog.mir l7) ∷ ‵ (fat fullShare LWaiting.mir l6 zero (LL.val RWaiting.the-type LWaiting.the-laws (told-6 s limit))) ∷ ‵ (fdies LWaiting.mir l6) ∷ ‵ (fat fullShare (tyInt w64) l5 zero (vint w64 (told-5 s limit))) ∷ ‵ (fdies (tyInt w64) l5) ∷ ‵ (fat fullShare LForm.mir l4 zero (LL.val RForm.the-type LForm.the-laws (told-3 s limit))) ∷ ‵ (fdies LForm.mir l4) ∷ ‵ (fat fullShare LForm.mir l3 zero (LL.val RForm.the-type LForm.the-laws (told-1 s limit))) ∷ ‵ (fdies LForm.mir l3) ∷ ‵ (fat fullShare (tyInt w32) l2 zero (vint w32 limit)) ∷ ‵ (fdies (tyInt w32) l2) ∷ ‵ (fat fullShare (tyRef (named 0) mut (pointee (RServer.the-row .written))) l1 zero (vptr b o)) ∷ ‵ (fdies (tyRef (named 0) mut (pointee (RServer.the-row .written))) l1) ∷ ‵ (froom LCounted.mir l0 zero) ∷ ‵ (fdies LCounted.mir l0) ∷ []) (runs (𝓣 .C) (𝓣 .Λ) En code-mir.t-11 (atRet En Post))
     step-11 is-1 is-3 is-5 is-6 is-8 is-9 is-10 =
-        -- server_lent::planning::planned_end
+        -- server_plan::planned_end
         use0 W (raw (C-planned-end 𝓤 H A at-mem routines .pre (to-11))) (goes-11 is-9) $
         calls-at ! (fmOf 𝓤 H (W .laws) 𝓣) (C-planned-end 𝓤 H A at-mem routines) known-planned-end (to-11) (and-then ! (load ! (from ! (stop !)) (look ! 21 refl)) (no-more !)) (λ v.
         use1 W (later (some (λ (r : Log). ((‵ ftrue) ⊛ ‵ (RLog.the-row .own r (v ∷ []))) ⊛ raw (ensured 𝓤 H A fn-planned-end.ended (fn-planned-end.clauses 𝓤 H A at-mem routines) tt ((told-9 s limit), tt) tt r)))) (id⊢ 𝓤 _) $ await ! tt $ pick ! (λ x.
@@ -399,7 +399,7 @@ module _ {M : Type 1} (𝓤 : URA M) (H : Heap 𝓤) (A : Atoms 𝓤) (W : Given
 
     step-10 : (is-1 : Is RForm.the-row (told-1 s limit) ((LL.val RForm.the-type LForm.the-laws (told-1 s limit)) ∷ [])) (is-3 : Is RForm.the-row (told-3 s limit) ((LL.val RForm.the-type LForm.the-laws (told-3 s limit)) ∷ [])) (is-5 : Is usize (told-5 s limit) ((vint w64 (told-5 s limit)) ∷ [])) (is-6 : Is RWaiting.the-row (told-6 s limit) ((LL.val RWaiting.the-type LWaiting.the-laws (told-6 s limit)) ∷ [])) (is-8 : Is RLog.the-row (s .log) ((LL.val RLog.the-type LLog.the-laws (s .log)) ∷ [])) (is-9 : Is RPlanned.the-row (told-9 s limit) ((LL.val RPlanned.the-type LPlanned.the-laws (told-9 s limit)) ∷ [])) → Sq W (‵ (cellAt fullShare (RServer.the-row .mir) ((LL.vals RServer.the-type LServer.the-laws) s) b o) ∷ ‵ (fobor κ q (Body (mem RServer.the-row) b o γ)) ∷ ‵ (fobs γ (RServer.the-row .coded .code s)) ∷ ‵ (fauth γ (RServer.the-row .coded .code s)) ∷ ‵ (froom (tyRef erased mut (pointee (RServer.the-row .written))) l16 zero) ∷ ‵ (fdies (tyRef erased mut (pointee (RServer.the-row .written))) l16) ∷ ‵ (fat fullShare (tyRef erased imm (pointee (RServer.the-row .written))) l15 zero (vptr b o)) ∷ ‵ (fdies (tyRef erased imm (pointee (RServer.the-row .written))) l15) ∷ ‵ (fat fullShare (tyRef erased imm (pointee (RServer.the-row .written))) l14 zero (vptr b o)) ∷ ‵ (fdies (tyRef erased imm (pointee (RServer.the-row .written))) l14) ∷ ‵ (fat fullShare (tyRef erased imm (pointee (RServer.the-row .written))) l13 zero (vptr b o)) ∷ ‵ (fdies (tyRef erased imm (pointee (RServer.the-row .written))) l13) ∷ ‵ (froom (tyInt w64) l12 zero) ∷ ‵ (fdies (tyInt w64) l12) ∷ ‵ (froom (tyInt w64) l11 zero) ∷ ‵ (fdies (tyInt w64) l11) ∷ ‵ (froom LLog.mir l10 zero) ∷ ‵ (fdies LLog.mir l10) ∷ ‵ (froom LPlan.mir l9 zero) ∷ ‵ (fdies LPlan.mir l9) ∷ ‵ (fat fullShare LPlanned.mir l8 zero (LL.val RPlanned.the-type LPlanned.the-laws (told-9 s limit))) ∷ ‵ (fdies LPlanned.mir l8) ∷ ‵ (fat fullShare LLog.mir l7 zero (LL.val RLog.the-type LLog.the-laws (s .log))) ∷ ‵ (fdies LLog.mir l7) ∷ ‵ (fat fullShare LWaiting.mir l6 zero (LL.val RWaiting.the-type LWaiting.the-laws (told-6 s limit))) ∷ ‵ (fdies LWaiting.mir l6) ∷ ‵ (fat fullShare (tyInt w64) l5 zero (vint w64 (told-5 s limit))) ∷ ‵ (fdies (tyInt w64) l5) ∷ ‵ (fat fullShare LForm.mir l4 zero (LL.val RForm.the-type LForm.the-laws (told-3 s limit))) ∷ ‵ (fdies LForm.mir l4) ∷ ‵ (fat fullShare LForm.mir l3 zero (LL.val RForm.the-type LForm.the-laws (told-1 s limit))) ∷ ‵ (fdies LForm.mir l3) ∷ ‵ (fat fullShare (tyInt w32) l2 zero (vint w32 limit)) ∷ ‵ (fdies (tyInt w32) l2) ∷ ‵ (fat fullShare (tyRef (named 0) mut (pointee (RServer.the-row .written))) l1 zero (vptr b o)) ∷ ‵ (fdies (tyRef (named 0) mut (pointee (RServer.the-row .written))) l1) ∷ ‵ (froom LCounted.mir l0 zero) ∷ ‵ (fdies LCounted.mir l0) ∷ []) (runs (𝓣 .C) (𝓣 .Λ) En code-mir.t-10 (atRet En Post))
     step-10 is-1 is-3 is-5 is-6 is-8 is-9 =
-        -- server_lent::planning::planned_plan
+        -- server_plan::planned_plan
         use0 W (raw (C-planned-plan 𝓤 H A at-mem routines .pre (to-10))) (goes-10 is-9) $
         calls-at ! (fmOf 𝓤 H (W .laws) 𝓣) (C-planned-plan 𝓤 H A at-mem routines) known-planned-plan (to-10) (and-then ! (load ! (from ! (stop !)) (look ! 21 refl)) (no-more !)) (λ v.
         use1 W (later (some (λ (r : Plan). ((‵ ftrue) ⊛ ‵ (RPlan.the-row .own r (v ∷ []))) ⊛ raw (ensured 𝓤 H A fn-planned-plan.ended (fn-planned-plan.clauses 𝓤 H A at-mem routines) tt ((told-9 s limit), tt) tt r)))) (id⊢ 𝓤 _) $ await ! tt $ pick ! (λ x.
@@ -411,7 +411,7 @@ module _ {M : Type 1} (𝓤 : URA M) (H : Heap 𝓤) (A : Atoms 𝓤) (W : Given
 
     step-9 : (is-1 : Is RForm.the-row (told-1 s limit) ((LL.val RForm.the-type LForm.the-laws (told-1 s limit)) ∷ [])) (is-3 : Is RForm.the-row (told-3 s limit) ((LL.val RForm.the-type LForm.the-laws (told-3 s limit)) ∷ [])) (is-5 : Is usize (told-5 s limit) ((vint w64 (told-5 s limit)) ∷ [])) (is-6 : Is RWaiting.the-row (told-6 s limit) ((LL.val RWaiting.the-type LWaiting.the-laws (told-6 s limit)) ∷ [])) (is-8 : Is RLog.the-row (s .log) ((LL.val RLog.the-type LLog.the-laws (s .log)) ∷ [])) → Sq W (‵ (cellAt fullShare (RServer.the-row .mir) ((LL.vals RServer.the-type LServer.the-laws) s) b o) ∷ ‵ (fobor κ q (Body (mem RServer.the-row) b o γ)) ∷ ‵ (fobs γ (RServer.the-row .coded .code s)) ∷ ‵ (fauth γ (RServer.the-row .coded .code s)) ∷ ‵ (froom (tyRef erased mut (pointee (RServer.the-row .written))) l16 zero) ∷ ‵ (fdies (tyRef erased mut (pointee (RServer.the-row .written))) l16) ∷ ‵ (fat fullShare (tyRef erased imm (pointee (RServer.the-row .written))) l15 zero (vptr b o)) ∷ ‵ (fdies (tyRef erased imm (pointee (RServer.the-row .written))) l15) ∷ ‵ (fat fullShare (tyRef erased imm (pointee (RServer.the-row .written))) l14 zero (vptr b o)) ∷ ‵ (fdies (tyRef erased imm (pointee (RServer.the-row .written))) l14) ∷ ‵ (fat fullShare (tyRef erased imm (pointee (RServer.the-row .written))) l13 zero (vptr b o)) ∷ ‵ (fdies (tyRef erased imm (pointee (RServer.the-row .written))) l13) ∷ ‵ (froom (tyInt w64) l12 zero) ∷ ‵ (fdies (tyInt w64) l12) ∷ ‵ (froom (tyInt w64) l11 zero) ∷ ‵ (fdies (tyInt w64) l11) ∷ ‵ (froom LLog.mir l10 zero) ∷ ‵ (fdies LLog.mir l10) ∷ ‵ (froom LPlan.mir l9 zero) ∷ ‵ (fdies LPlan.mir l9) ∷ ‵ (froom LPlanned.mir l8 zero) ∷ ‵ (fdies LPlanned.mir l8) ∷ ‵ (fat fullShare LLog.mir l7 zero (LL.val RLog.the-type LLog.the-laws (s .log))) ∷ ‵ (fdies LLog.mir l7) ∷ ‵ (fat fullShare LWaiting.mir l6 zero (LL.val RWaiting.the-type LWaiting.the-laws (told-6 s limit))) ∷ ‵ (fdies LWaiting.mir l6) ∷ ‵ (fat fullShare (tyInt w64) l5 zero (vint w64 (told-5 s limit))) ∷ ‵ (fdies (tyInt w64) l5) ∷ ‵ (fat fullShare LForm.mir l4 zero (LL.val RForm.the-type LForm.the-laws (told-3 s limit))) ∷ ‵ (fdies LForm.mir l4) ∷ ‵ (fat fullShare LForm.mir l3 zero (LL.val RForm.the-type LForm.the-laws (told-1 s limit))) ∷ ‵ (fdies LForm.mir l3) ∷ ‵ (fat fullShare (tyInt w32) l2 zero (vint w32 limit)) ∷ ‵ (fdies (tyInt w32) l2) ∷ ‵ (fat fullShare (tyRef (named 0) mut (pointee (RServer.the-row .written))) l1 zero (vptr b o)) ∷ ‵ (fdies (tyRef (named 0) mut (pointee (RServer.the-row .written))) l1) ∷ ‵ (froom LCounted.mir l0 zero) ∷ ‵ (fdies LCounted.mir l0) ∷ []) (runs (𝓣 .C) (𝓣 .Λ) En code-mir.t-9 (atRet En Post))
     step-9 is-1 is-3 is-5 is-6 is-8 =
-        -- server_lent::planning::plan_by
+        -- server_plan::plan_by
         use0 W (raw (C-plan-by 𝓤 H A at-mem routines .pre (to-9))) (goes-9 is-3 is-6 is-8 is-limit) $
         calls-at ! (fmOf 𝓤 H (W .laws) 𝓣) (C-plan-by 𝓤 H A at-mem routines) known-plan-by (to-9) (and-then ! (load ! (from ! (stop !)) (look ! 29 refl)) (and-then ! (load ! (from ! (stop !)) (look ! 25 refl)) (and-then ! (load ! (from ! (stop !)) (look ! 23 refl)) (and-then ! (load ! (from ! (stop !)) (look ! 33 refl)) (no-more !))))) (λ v.
         use1 W (later (some (λ (r : Planned). ((‵ ftrue) ⊛ ‵ (RPlanned.the-row .own r (v ∷ []))) ⊛ raw (ensured 𝓤 H A fn-plan-by.ended (fn-plan-by.clauses 𝓤 H A at-mem routines) tt ((told-3 s limit), ((told-6 s limit), ((s .log), (limit, tt)))) tt r)))) (id⊢ 𝓤 _) $ await ! tt $ pick ! (λ x.
@@ -429,7 +429,7 @@ module _ {M : Type 1} (𝓤 : URA M) (H : Heap 𝓤) (A : Atoms 𝓤) (W : Given
 
     step-6 : (is-1 : Is RForm.the-row (told-1 s limit) ((LL.val RForm.the-type LForm.the-laws (told-1 s limit)) ∷ [])) (is-3 : Is RForm.the-row (told-3 s limit) ((LL.val RForm.the-type LForm.the-laws (told-3 s limit)) ∷ [])) (is-5 : Is usize (told-5 s limit) ((vint w64 (told-5 s limit)) ∷ [])) → Sq W (‵ (cellAt fullShare (RServer.the-row .mir) ((LL.vals RServer.the-type LServer.the-laws) s) b o) ∷ ‵ (fobor κ q (Body (mem RServer.the-row) b o γ)) ∷ ‵ (fobs γ (RServer.the-row .coded .code s)) ∷ ‵ (fauth γ (RServer.the-row .coded .code s)) ∷ ‵ (froom (tyRef erased mut (pointee (RServer.the-row .written))) l16 zero) ∷ ‵ (fdies (tyRef erased mut (pointee (RServer.the-row .written))) l16) ∷ ‵ (froom (tyRef erased imm (pointee (RServer.the-row .written))) l15 zero) ∷ ‵ (fdies (tyRef erased imm (pointee (RServer.the-row .written))) l15) ∷ ‵ (fat fullShare (tyRef erased imm (pointee (RServer.the-row .written))) l14 zero (vptr b o)) ∷ ‵ (fdies (tyRef erased imm (pointee (RServer.the-row .written))) l14) ∷ ‵ (fat fullShare (tyRef erased imm (pointee (RServer.the-row .written))) l13 zero (vptr b o)) ∷ ‵ (fdies (tyRef erased imm (pointee (RServer.the-row .written))) l13) ∷ ‵ (froom (tyInt w64) l12 zero) ∷ ‵ (fdies (tyInt w64) l12) ∷ ‵ (froom (tyInt w64) l11 zero) ∷ ‵ (fdies (tyInt w64) l11) ∷ ‵ (froom LLog.mir l10 zero) ∷ ‵ (fdies LLog.mir l10) ∷ ‵ (froom LPlan.mir l9 zero) ∷ ‵ (fdies LPlan.mir l9) ∷ ‵ (froom LPlanned.mir l8 zero) ∷ ‵ (fdies LPlanned.mir l8) ∷ ‵ (froom LLog.mir l7 zero) ∷ ‵ (fdies LLog.mir l7) ∷ ‵ (froom LWaiting.mir l6 zero) ∷ ‵ (fdies LWaiting.mir l6) ∷ ‵ (fat fullShare (tyInt w64) l5 zero (vint w64 (told-5 s limit))) ∷ ‵ (fdies (tyInt w64) l5) ∷ ‵ (fat fullShare LForm.mir l4 zero (LL.val RForm.the-type LForm.the-laws (told-3 s limit))) ∷ ‵ (fdies LForm.mir l4) ∷ ‵ (fat fullShare LForm.mir l3 zero (LL.val RForm.the-type LForm.the-laws (told-1 s limit))) ∷ ‵ (fdies LForm.mir l3) ∷ ‵ (fat fullShare (tyInt w32) l2 zero (vint w32 limit)) ∷ ‵ (fdies (tyInt w32) l2) ∷ ‵ (fat fullShare (tyRef (named 0) mut (pointee (RServer.the-row .written))) l1 zero (vptr b o)) ∷ ‵ (fdies (tyRef (named 0) mut (pointee (RServer.the-row .written))) l1) ∷ ‵ (froom LCounted.mir l0 zero) ∷ ‵ (fdies LCounted.mir l0) ∷ []) (runs (𝓣 .C) (𝓣 .Λ) En code-mir.t-6 (atRet En Post))
     step-6 is-1 is-3 is-5 =
-        -- server_lent::planning::waiting_in
+        -- server_plan::waiting_in
         assigns ! (addr ! (from ! (hop ! (look ! 34 refl) (stop !)))) (from ! (stop !)) (init ! 6 refl (tt, tt)) $
         lends-cell ! tt RServer.the-row (Is RServer.the-row) (shows 𝓤 H A RServer.the-row) (LL.makes RServer.the-type LServer.the-plain 𝓤 H A) (LL.vals RServer.the-type LServer.the-laws) (LL.tells RServer.the-type LServer.the-laws) b o s was (λ α δ.
         use2 W (raw (C-waiting-in 𝓤 H A at-mem routines .pre (to-6 α δ))) (goes-6 α δ is-5 (refl, lit< tt) (le-refl 64)) $
@@ -445,7 +445,7 @@ module _ {M : Type 1} (𝓤 : URA M) (H : Heap 𝓤) (A : Atoms 𝓤) (W : Given
 
     step-5 : (is-1 : Is RForm.the-row (told-1 s limit) ((LL.val RForm.the-type LForm.the-laws (told-1 s limit)) ∷ [])) (is-3 : Is RForm.the-row (told-3 s limit) ((LL.val RForm.the-type LForm.the-laws (told-3 s limit)) ∷ [])) → Sq W (‵ (cellAt fullShare (RServer.the-row .mir) ((LL.vals RServer.the-type LServer.the-laws) s) b o) ∷ ‵ (fobor κ q (Body (mem RServer.the-row) b o γ)) ∷ ‵ (fobs γ (RServer.the-row .coded .code s)) ∷ ‵ (fauth γ (RServer.the-row .coded .code s)) ∷ ‵ (froom (tyRef erased mut (pointee (RServer.the-row .written))) l16 zero) ∷ ‵ (fdies (tyRef erased mut (pointee (RServer.the-row .written))) l16) ∷ ‵ (froom (tyRef erased imm (pointee (RServer.the-row .written))) l15 zero) ∷ ‵ (fdies (tyRef erased imm (pointee (RServer.the-row .written))) l15) ∷ ‵ (fat fullShare (tyRef erased imm (pointee (RServer.the-row .written))) l14 zero (vptr b o)) ∷ ‵ (fdies (tyRef erased imm (pointee (RServer.the-row .written))) l14) ∷ ‵ (fat fullShare (tyRef erased imm (pointee (RServer.the-row .written))) l13 zero (vptr b o)) ∷ ‵ (fdies (tyRef erased imm (pointee (RServer.the-row .written))) l13) ∷ ‵ (froom (tyInt w64) l12 zero) ∷ ‵ (fdies (tyInt w64) l12) ∷ ‵ (froom (tyInt w64) l11 zero) ∷ ‵ (fdies (tyInt w64) l11) ∷ ‵ (froom LLog.mir l10 zero) ∷ ‵ (fdies LLog.mir l10) ∷ ‵ (froom LPlan.mir l9 zero) ∷ ‵ (fdies LPlan.mir l9) ∷ ‵ (froom LPlanned.mir l8 zero) ∷ ‵ (fdies LPlanned.mir l8) ∷ ‵ (froom LLog.mir l7 zero) ∷ ‵ (fdies LLog.mir l7) ∷ ‵ (froom LWaiting.mir l6 zero) ∷ ‵ (fdies LWaiting.mir l6) ∷ ‵ (froom (tyInt w64) l5 zero) ∷ ‵ (fdies (tyInt w64) l5) ∷ ‵ (fat fullShare LForm.mir l4 zero (LL.val RForm.the-type LForm.the-laws (told-3 s limit))) ∷ ‵ (fdies LForm.mir l4) ∷ ‵ (fat fullShare LForm.mir l3 zero (LL.val RForm.the-type LForm.the-laws (told-1 s limit))) ∷ ‵ (fdies LForm.mir l3) ∷ ‵ (fat fullShare (tyInt w32) l2 zero (vint w32 limit)) ∷ ‵ (fdies (tyInt w32) l2) ∷ ‵ (fat fullShare (tyRef (named 0) mut (pointee (RServer.the-row .written))) l1 zero (vptr b o)) ∷ ‵ (fdies (tyRef (named 0) mut (pointee (RServer.the-row .written))) l1) ∷ ‵ (froom LCounted.mir l0 zero) ∷ ‵ (fdies LCounted.mir l0) ∷ []) (runs (𝓣 .C) (𝓣 .Λ) En code-mir.t-5 (atRet En Post))
     step-5 is-1 is-3 =
-        -- server_lent::form::form_word
+        -- server_read::form::form_word
         use0 W (raw (C-form-word 𝓤 H A at-mem routines .pre (to-5))) (goes-5 is-3) $
         calls-at ! (fmOf 𝓤 H (W .laws) 𝓣) (C-form-word 𝓤 H A at-mem routines) known-form-word (to-5) (and-then ! (load ! (from ! (stop !)) (look ! 29 refl)) (no-more !)) (λ v.
         use1 W (later (some (λ (r : ℕ). ((‵ ftrue) ⊛ ‵ (usize .own r (v ∷ []))) ⊛ raw (ensured 𝓤 H A fn-form-word.ended (fn-form-word.clauses 𝓤 H A at-mem routines) tt ((told-3 s limit), tt) tt r)))) (id⊢ 𝓤 _) $ await ! tt $ pick ! (λ x.
@@ -457,7 +457,7 @@ module _ {M : Type 1} (𝓤 : URA M) (H : Heap 𝓤) (A : Atoms 𝓤) (W : Given
 
     step-3 : (is-1 : Is RForm.the-row (told-1 s limit) ((LL.val RForm.the-type LForm.the-laws (told-1 s limit)) ∷ [])) → Sq W (‵ (cellAt fullShare (RServer.the-row .mir) ((LL.vals RServer.the-type LServer.the-laws) s) b o) ∷ ‵ (fobor κ q (Body (mem RServer.the-row) b o γ)) ∷ ‵ (fobs γ (RServer.the-row .coded .code s)) ∷ ‵ (fauth γ (RServer.the-row .coded .code s)) ∷ ‵ (froom (tyRef erased mut (pointee (RServer.the-row .written))) l16 zero) ∷ ‵ (fdies (tyRef erased mut (pointee (RServer.the-row .written))) l16) ∷ ‵ (froom (tyRef erased imm (pointee (RServer.the-row .written))) l15 zero) ∷ ‵ (fdies (tyRef erased imm (pointee (RServer.the-row .written))) l15) ∷ ‵ (froom (tyRef erased imm (pointee (RServer.the-row .written))) l14 zero) ∷ ‵ (fdies (tyRef erased imm (pointee (RServer.the-row .written))) l14) ∷ ‵ (fat fullShare (tyRef erased imm (pointee (RServer.the-row .written))) l13 zero (vptr b o)) ∷ ‵ (fdies (tyRef erased imm (pointee (RServer.the-row .written))) l13) ∷ ‵ (froom (tyInt w64) l12 zero) ∷ ‵ (fdies (tyInt w64) l12) ∷ ‵ (froom (tyInt w64) l11 zero) ∷ ‵ (fdies (tyInt w64) l11) ∷ ‵ (froom LLog.mir l10 zero) ∷ ‵ (fdies LLog.mir l10) ∷ ‵ (froom LPlan.mir l9 zero) ∷ ‵ (fdies LPlan.mir l9) ∷ ‵ (froom LPlanned.mir l8 zero) ∷ ‵ (fdies LPlanned.mir l8) ∷ ‵ (froom LLog.mir l7 zero) ∷ ‵ (fdies LLog.mir l7) ∷ ‵ (froom LWaiting.mir l6 zero) ∷ ‵ (fdies LWaiting.mir l6) ∷ ‵ (froom (tyInt w64) l5 zero) ∷ ‵ (fdies (tyInt w64) l5) ∷ ‵ (froom LForm.mir l4 zero) ∷ ‵ (fdies LForm.mir l4) ∷ ‵ (fat fullShare LForm.mir l3 zero (LL.val RForm.the-type LForm.the-laws (told-1 s limit))) ∷ ‵ (fdies LForm.mir l3) ∷ ‵ (fat fullShare (tyInt w32) l2 zero (vint w32 limit)) ∷ ‵ (fdies (tyInt w32) l2) ∷ ‵ (fat fullShare (tyRef (named 0) mut (pointee (RServer.the-row .written))) l1 zero (vptr b o)) ∷ ‵ (fdies (tyRef (named 0) mut (pointee (RServer.the-row .written))) l1) ∷ ‵ (froom LCounted.mir l0 zero) ∷ ‵ (fdies LCounted.mir l0) ∷ []) (runs (𝓣 .C) (𝓣 .Λ) En code-mir.t-3 (atRet En Post))
     step-3 is-1 =
-        -- server_lent::form::form_in
+        -- server_read::form::form_in
         assigns ! (addr ! (from ! (hop ! (look ! 34 refl) (stop !)))) (from ! (stop !)) (init ! 8 refl (tt, tt)) $
         lends-cell ! tt RServer.the-row (Is RServer.the-row) (shows 𝓤 H A RServer.the-row) (LL.makes RServer.the-type LServer.the-plain 𝓤 H A) (LL.vals RServer.the-type LServer.the-laws) (LL.tells RServer.the-type LServer.the-laws) b o s was (λ α δ.
         use2 W (raw (C-form-in 𝓤 H A at-mem routines .pre (to-3 α δ))) (goes-3 α δ is-1 (refl, lit< tt) (le-refl 64)) $
@@ -473,7 +473,7 @@ module _ {M : Type 1} (𝓤 : URA M) (H : Heap 𝓤) (A : Atoms 𝓤) (W : Given
 
     step-1 : Sq W (‵ (cellAt fullShare (RServer.the-row .mir) ((LL.vals RServer.the-type LServer.the-laws) s) b o) ∷ ‵ (fobor κ q (Body (mem RServer.the-row) b o γ)) ∷ ‵ (fobs γ (RServer.the-row .coded .code s)) ∷ ‵ (fauth γ (RServer.the-row .coded .code s)) ∷ ‵ (froom (tyRef erased mut (pointee (RServer.the-row .written))) l16 zero) ∷ ‵ (fdies (tyRef erased mut (pointee (RServer.the-row .written))) l16) ∷ ‵ (froom (tyRef erased imm (pointee (RServer.the-row .written))) l15 zero) ∷ ‵ (fdies (tyRef erased imm (pointee (RServer.the-row .written))) l15) ∷ ‵ (froom (tyRef erased imm (pointee (RServer.the-row .written))) l14 zero) ∷ ‵ (fdies (tyRef erased imm (pointee (RServer.the-row .written))) l14) ∷ ‵ (froom (tyRef erased imm (pointee (RServer.the-row .written))) l13 zero) ∷ ‵ (fdies (tyRef erased imm (pointee (RServer.the-row .written))) l13) ∷ ‵ (froom (tyInt w64) l12 zero) ∷ ‵ (fdies (tyInt w64) l12) ∷ ‵ (froom (tyInt w64) l11 zero) ∷ ‵ (fdies (tyInt w64) l11) ∷ ‵ (froom LLog.mir l10 zero) ∷ ‵ (fdies LLog.mir l10) ∷ ‵ (froom LPlan.mir l9 zero) ∷ ‵ (fdies LPlan.mir l9) ∷ ‵ (froom LPlanned.mir l8 zero) ∷ ‵ (fdies LPlanned.mir l8) ∷ ‵ (froom LLog.mir l7 zero) ∷ ‵ (fdies LLog.mir l7) ∷ ‵ (froom LWaiting.mir l6 zero) ∷ ‵ (fdies LWaiting.mir l6) ∷ ‵ (froom (tyInt w64) l5 zero) ∷ ‵ (fdies (tyInt w64) l5) ∷ ‵ (froom LForm.mir l4 zero) ∷ ‵ (fdies LForm.mir l4) ∷ ‵ (froom LForm.mir l3 zero) ∷ ‵ (fdies LForm.mir l3) ∷ ‵ (fat fullShare (tyInt w32) l2 zero (vint w32 limit)) ∷ ‵ (fdies (tyInt w32) l2) ∷ ‵ (fat fullShare (tyRef (named 0) mut (pointee (RServer.the-row .written))) l1 zero (vptr b o)) ∷ ‵ (fdies (tyRef (named 0) mut (pointee (RServer.the-row .written))) l1) ∷ ‵ (froom LCounted.mir l0 zero) ∷ ‵ (fdies LCounted.mir l0) ∷ []) (runs (𝓣 .C) (𝓣 .Λ) En code-mir.t-1 (atRet En Post))
     step-1 =
-        -- server_lent::form::head
+        -- server_read::form::head
         assigns ! (addr ! (from ! (hop ! (look ! 34 refl) (stop !)))) (from ! (stop !)) (init ! 10 refl (tt, tt)) $
         lends-cell ! tt RServer.the-row (Is RServer.the-row) (shows 𝓤 H A RServer.the-row) (LL.makes RServer.the-type LServer.the-plain 𝓤 H A) (LL.vals RServer.the-type LServer.the-laws) (LL.tells RServer.the-type LServer.the-laws) b o s was (λ α δ.
         use2 W (raw (C-head 𝓤 H A at-mem routines .pre (to-1 α δ))) (goes-1 α δ) $

@@ -1,0 +1,2 @@
+pub mod PlanTurns
+pub mod PlanIsRuns
