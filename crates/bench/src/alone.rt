@@ -1,8 +1,8 @@
 // The cases of ballots, counters, bytes and a drive: G, H, K and L.
-use crate::feed::heard;
+use crate::exchange::heard;
+use crate::exchange::same;
 use crate::feed::no_set;
 use crate::feed::put5;
-use crate::feed::same;
 use crate::feed::same_set;
 use crate::feed::words;
 use crate::host;

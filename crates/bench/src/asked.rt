@@ -1,13 +1,13 @@
 // The cases of a server that is asked: A, B, C, I and J.
+use crate::exchange::after;
+use crate::exchange::answers;
+use crate::exchange::refuses;
+use crate::exchange::server0;
 use crate::feed::add2;
-use crate::feed::after;
-use crate::feed::answers;
 use crate::feed::no_set;
 use crate::feed::one;
 use crate::feed::piece;
 use crate::feed::put5;
-use crate::feed::refuses;
-use crate::feed::server0;
 use crate::feed::words;
 use messages::asks::accept;
 use messages::asks::commit;

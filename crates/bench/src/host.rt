@@ -36,8 +36,6 @@ pub struct Exchanged {
     pub server: Server,
 }
 
-// ---- a server
-
 fn begun(n: u32, s: Server) -> Begun
     ensures { λ r. ⌜ r ≡ record { refusal = n; server = s } ⌝ }
 {
@@ -109,8 +107,6 @@ pub fn log(s: Server, place: u32) -> LogEntry
     drobulets_server_log(&s, place)
 }
 
-// ---- a drive
-
 fn moved(n: u32, d: Drive) -> Moved
     ensures { λ r. ⌜ r ≡ record { refusal = n; drive = d } ⌝ }
 {
@@ -135,8 +131,6 @@ pub fn hear(d: Drive, input: &[u8]) -> Moved
     let refusal = drobulets_drive_take(&mut n, input);
     moved(refusal, n)
 }
-
-// ---- a message
 
 pub fn encode(m: Message, output: &mut [u8]) -> Encoded
     ensures { λ r. ⌜ (r ≡ answer (encode m (now (output .entry)))) × (now (output .exit) ≡ encode m (now (output .entry)) .buffer) ⌝ }

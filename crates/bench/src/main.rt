@@ -1,7 +1,8 @@
 // The cases A to L of document 01: a line each, its letter and `ok`, or `bad` where the library answers anything else.
 // Every verdict is computed from calls of the library.
-mod feed; // feed.rt: pieces, sets and messages to feed, and what an answer is held against
+mod feed; // feed.rt: pieces and sets to feed
 pub mod host; // host.rt: what hosts call, on a state that stands in a local
+mod exchange; // exchange.rt: messages told as bytes, and what an answer is held against
 mod asked; // asked.rt: A, B, C, I and J, a server that is asked
 mod ran; // ran.rt: D, E and F, a server that runs
 mod alone; // alone.rt: G, H, K and L, ballots, counters, bytes and a drive

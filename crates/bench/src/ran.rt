@@ -1,10 +1,10 @@
 // The cases of a server that runs: D, E and F.
+use crate::exchange::after;
+use crate::exchange::server0;
 use crate::feed::add2;
-use crate::feed::after;
 use crate::feed::no_set;
 use crate::feed::piece;
 use crate::feed::same_set;
-use crate::feed::server0;
 use crate::feed::two;
 use crate::feed::words;
 use crate::host;

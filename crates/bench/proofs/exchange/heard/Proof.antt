@@ -1,10 +1,10 @@
--- `bench::feed::heard` gives the drive no more than the bytes that were written. Assumes nothing.
+-- `bench::exchange::heard` gives the drive no more than the bytes that were written. Assumes nothing.
 use mathlib.Core.Path.{sym, subst}
 use Prim.Native.Nat.{ℕ, _≤_}
 use lib.Seq.{length-take-le}
 use borrow.Author.Needs.{needs}
-use Rattle.bench.proofs.feed.heard.Statement.{statement}
-use Rattle.bench.proofs.feed.heard.Tie as tie
+use Rattle.bench.proofs.exchange.heard.Statement.{statement}
+use Rattle.bench.proofs.exchange.heard.Tie as tie
 
 slice-aggregate-encode : tie.Need-slice-aggregate-encode
 slice-aggregate-encode c = search needs

@@ -1,10 +1,10 @@
--- `bench::feed::told` gives the server no more than the bytes that were written. Assumes nothing.
+-- `bench::exchange::told` gives the server no more than the bytes that were written. Assumes nothing.
 use mathlib.Core.Path.{sym, subst}
 use Prim.Native.Nat.{ℕ, _≤_}
 use lib.Seq.{length-take-le}
 use borrow.Author.Needs.{needs}
-use Rattle.bench.proofs.feed.told.Statement.{statement}
-use Rattle.bench.proofs.feed.told.Tie as tie
+use Rattle.bench.proofs.exchange.told.Statement.{statement}
+use Rattle.bench.proofs.exchange.told.Tie as tie
 
 slice-aggregate-encode : tie.Need-slice-aggregate-encode
 slice-aggregate-encode c = search needs

@@ -1,8 +1,8 @@
--- `bench::feed::same_bytes` never reads past the end. Assumes nothing.
+-- `bench::exchange::same_bytes` never reads past the end. Assumes nothing.
 use Prim.Native.Nat.{_≤_, _-_}
 use borrow.Author.Needs.{needs}
-use Rattle.bench.proofs.feed.same_bytes.Statement.{statement}
-use Rattle.bench.proofs.feed.same_bytes.Tie as tie
+use Rattle.bench.proofs.exchange.same_bytes.Statement.{statement}
+use Rattle.bench.proofs.exchange.same_bytes.Tie as tie
 
 abbrev Inv-loop : tie.InvT-loop
 Inv-loop a b same₀ i₀ same i = i ≤ 176
