@@ -7,7 +7,7 @@ ghost use Rattle.server.specs.Run.{run};
 ghost use Rattle.door.specs.Exchange.{take, takeReply};
 ghost use Rattle.door.specs.Readings.{counter, logEntry};
 ghost use Rattle.drive.specs.Host.{start};
-use codec::Encoded;
+use encoding::Encoded;
 use door::Answer;
 use door::Counted;
 use door::LogEntry;

@@ -55,7 +55,7 @@ use Rattle.door.proofs.exchange.message_of.Symbol.{name as #door·excha
 use Rattle.door.proofs.exchange.message_of.Met as met-message-of
 use Rattle.server_read.proofs.stepping.consider as fn-consider
 use Rattle.server_read.proofs.stepping.consider.Symbol as def-consider
-use Rattle.server_read.proofs.stepping.consider.Symbol.{name as #server-lent·stepping·consider}
+use Rattle.server_read.proofs.stepping.consider.Symbol.{name as #server-read·stepping·consider}
 use Rattle.server_read.proofs.stepping.consider.Met as met-consider
 use Rattle.door.proofs.exchange.judged as fn-judged
 use Rattle.door.proofs.exchange.judged.Symbol as def-judged
@@ -154,7 +154,7 @@ module _ {M : Type 1} (𝓤 : URA M) (H : Heap 𝓤) (A : Atoms 𝓤) (W : Given
   goes-3 : Is RDecoded.the-row d ((LL.val RDecoded.the-type LDecoded.the-laws d) ∷ []) → Is RConsidered.the-row (told-2 s d) ((LL.val RConsidered.the-type LConsidered.the-laws (told-2 s d)) ∷ []) → ent 𝓤 (emp 𝓤) (C-judged 𝓤 H A at-mem routines .pre (to-3))
   goes-3 is0 is1 = qed W ([]) ∵ nothing ! $ owned ! RConsidered.the-row (Is RConsidered.the-row) (LL.makes RConsidered.the-type LConsidered.the-plain 𝓤 H A) (told-2 s d) _ is1 $ fjoin ! $ owned ! RDecoded.the-row (Is RDecoded.the-row) (LL.makes RDecoded.the-type LDecoded.the-plain 𝓤 H A) d _ is0 $ fjoin ! $ nothing ! $ join ! $ frame ! $ done !
 
-  module _ (𝓣 : Tables 𝓤 H) (known-message-of : Triple 𝓤 (𝓣 .C #door·exchange·message-of) (C-message-of 𝓤 H A at-mem routines)) (known-consider : Triple 𝓤 (𝓣 .C #server-lent·stepping·consider) (C-consider 𝓤 H A at-mem routines)) (known-judged : Triple 𝓤 (𝓣 .C #door·exchange·judged) (C-judged 𝓤 H A at-mem routines)) (is-d : Is RDecoded.the-row d ((LL.val RDecoded.the-type LDecoded.the-laws d) ∷ [])) (was : Sound s) (l0 l1 l2 l3 l4 : ℕ) where
+  module _ (𝓣 : Tables 𝓤 H) (known-message-of : Triple 𝓤 (𝓣 .C #door·exchange·message-of) (C-message-of 𝓤 H A at-mem routines)) (known-consider : Triple 𝓤 (𝓣 .C #server-read·stepping·consider) (C-consider 𝓤 H A at-mem routines)) (known-judged : Triple 𝓤 (𝓣 .C #door·exchange·judged) (C-judged 𝓤 H A at-mem routines)) (is-d : Is RDecoded.the-row d ((LL.val RDecoded.the-type LDecoded.the-laws d) ∷ [])) (was : Sound s) (l0 l1 l2 l3 l4 : ℕ) where
     abbrev En : Env 𝓤 H
     En = (LConsidered.mir, l0) ∷ ((tyRef (named 0) imm (pointee (RServer.the-row .written))), l1) ∷ (LDecoded.mir, l2) ∷ (LMessage.mir, l3) ∷ (LConsidered.mir, l4) ∷ []
 
@@ -199,7 +199,7 @@ module _ {M : Type 1} (𝓤 : URA M) (H : Heap 𝓤) (A : Atoms 𝓤) (W : Given
         rewrite ! 4 (λ (w : Val). ‵ (fat fullShare LMessage.mir l3 zero w)) (spelled-as RMessage.the-row (LL.vals RMessage.the-type LMessage.the-laws) (LL.tells RMessage.the-type LMessage.the-laws) x (told-1 s d) v is (e ∙ told-1-is s d)) refl $
         step-2 (is-spelled RMessage.the-row (LL.vals RMessage.the-type LMessage.the-laws) (LL.tells RMessage.the-type LMessage.the-laws) x (told-1 s d) v is (e ∙ told-1-is s d)))))))
 
-  module _ (𝓣 : Tables 𝓤 H) (known-message-of : Triple 𝓤 (𝓣 .C #door·exchange·message-of) (C-message-of 𝓤 H A at-mem routines)) (known-consider : Triple 𝓤 (𝓣 .C #server-lent·stepping·consider) (C-consider 𝓤 H A at-mem routines)) (known-judged : Triple 𝓤 (𝓣 .C #door·exchange·judged) (C-judged 𝓤 H A at-mem routines)) where
+  module _ (𝓣 : Tables 𝓤 H) (known-message-of : Triple 𝓤 (𝓣 .C #door·exchange·message-of) (C-message-of 𝓤 H A at-mem routines)) (known-consider : Triple 𝓤 (𝓣 .C #server-read·stepping·consider) (C-consider 𝓤 H A at-mem routines)) (known-judged : Triple 𝓤 (𝓣 .C #door·exchange·judged) (C-judged 𝓤 H A at-mem routines)) where
     walk : Is RDecoded.the-row d ((LL.val RDecoded.the-type LDecoded.the-laws d) ∷ []) → ent 𝓤 (onEntry 𝓤 H A f.signature (κ, tt) (q, tt) a at) (WpFn 𝓤 H (𝓣 .C) (𝓣 .Λ) code.function (vptr b o ∷ (LL.val RDecoded.the-type LDecoded.the-laws d) ∷ []) Post)
     walk is-d =
         qed W ((‵ (flft κ q) ⊛ tokens) ∷ ‵ (owns (ShrRef (named 0) κ RServer.the-row ∷ RDecoded.the-row ∷ []) a at) ∷ []) ∵
@@ -213,7 +213,7 @@ module _ {M : Type 1} (𝓤 : URA M) (H : Heap 𝓤) (A : Atoms 𝓤) (W : Given
         step-1 𝓣 known-message-of known-consider known-judged is-d was l0 l1 l2 l3 l4)))))))
 
 module _ {M : Type 1} (𝓤 : URA M) (H : Heap 𝓤) (A : Atoms 𝓤) (W : Given 𝓤 H A) (at-mem : Memory → SProp 𝓤) (routines : Routine → Fun 𝓤) where
-  walks : (𝓣 : Tables 𝓤 H) → Triple 𝓤 (𝓣 .C #door·exchange·message-of) (C-message-of 𝓤 H A at-mem routines) → Triple 𝓤 (𝓣 .C #server-lent·stepping·consider) (C-consider 𝓤 H A at-mem routines) → Triple 𝓤 (𝓣 .C #door·exchange·judged) (C-judged 𝓤 H A at-mem routines) → Walks 𝓤 H A f.ended stayed (WpFn 𝓤 H (𝓣 .C) (𝓣 .Λ) code.function) (f.clauses 𝓤 H A at-mem routines)
+  walks : (𝓣 : Tables 𝓤 H) → Triple 𝓤 (𝓣 .C #door·exchange·message-of) (C-message-of 𝓤 H A at-mem routines) → Triple 𝓤 (𝓣 .C #server-read·stepping·consider) (C-consider 𝓤 H A at-mem routines) → Triple 𝓤 (𝓣 .C #door·exchange·judged) (C-judged 𝓤 H A at-mem routines) → Walks 𝓤 H A f.ended stayed (WpFn 𝓤 H (𝓣 .C) (𝓣 .Λ) code.function) (f.clauses 𝓤 H A at-mem routines)
   walks 𝓣 k0 k1 k2 = walked 𝓤 H A f.ended stayed (f.clauses 𝓤 H A at-mem routines) (WpFn 𝓤 H (𝓣 .C) (𝓣 .Λ) code.function) (λ κs. (ptr-vals, ((LL.vals RDecoded.the-type LDecoded.the-laws), tt)))
       (λ κs. (shr-tells (named 0) (κs .0) RServer.the-row, ((LL.tells RDecoded.the-type LDecoded.the-laws), tt)))
       (λ κs qs bounds a _ are. via 𝓤 _ (fst∗ 𝓤 _ (emp 𝓤)) (walk 𝓤 H A W at-mem routines (κs .0) (qs .0) (a .0 .ptr .0) (a .0 .ptr .1) (a .0 .name) (a .0 .now) (a .1 .0) 𝓣 k0 k1 k2 (are .1 .0)))
@@ -222,7 +222,7 @@ module _ {M : Type 1} (𝓤 : URA M) (H : Heap 𝓤) (A : Atoms 𝓤) (W : Given
   goes = (goes-dropped 𝓤 H A W 1 (shrRefTo (0 ∷ []) tt (plain (λ _. RServer.the-row))) yes (λ κs x f. refl), (goes-dropped 𝓤 H A W 1 (plain (λ _. RDecoded.the-row)) yes (λ κs x f. refl), tt))
 
 meets : {M : Type 1} (𝓤 : URA M) (H : Heap 𝓤) (A : Atoms 𝓤) (W : Given 𝓤 H A) (at-mem : Memory → SProp 𝓤) (routines : Routine → Fun 𝓤) (𝓣 : Tables 𝓤 H)
-    → Triple 𝓤 (𝓣 .C #door·exchange·message-of) (C-message-of 𝓤 H A at-mem routines) → Triple 𝓤 (𝓣 .C #server-lent·stepping·consider) (C-consider 𝓤 H A at-mem routines) → Triple 𝓤 (𝓣 .C #door·exchange·judged) (C-judged 𝓤 H A at-mem routines) → Meets 𝓤 H A f.signature (WpFn 𝓤 H (𝓣 .C) (𝓣 .Λ) code.function) (f.spec 𝓤 H A at-mem routines)
+    → Triple 𝓤 (𝓣 .C #door·exchange·message-of) (C-message-of 𝓤 H A at-mem routines) → Triple 𝓤 (𝓣 .C #server-read·stepping·consider) (C-consider 𝓤 H A at-mem routines) → Triple 𝓤 (𝓣 .C #door·exchange·judged) (C-judged 𝓤 H A at-mem routines) → Meets 𝓤 H A f.signature (WpFn 𝓤 H (𝓣 .C) (𝓣 .Λ) code.function) (f.spec 𝓤 H A at-mem routines)
 meets 𝓤 H A W at-mem routines 𝓣 k0 k1 k2 = walk-meets 𝓤 H A f.ended stayed W (goes 𝓤 H A W at-mem routines) (f.clauses 𝓤 H A at-mem routines) (WpFn 𝓤 H (𝓣 .C) (𝓣 .Λ) code.function) (WpFn-mono 𝓤 H (W .laws) 𝓣 code.function)
     (walks 𝓤 H A W at-mem routines 𝓣 k0 k1 k2)
 
@@ -233,5 +233,5 @@ heard-spec 𝓤 H 𝓜 𝓖 𝓡 =
     (tables 𝓤 H 𝓜 𝓡 code.env .C) (tables 𝓤 H 𝓜 𝓡 code.env .Λ) #door·exchange·heard code.function (code.unfolded 𝓤 H 𝓜 𝓡)
     (meets 𝓤 H (𝓖 .A) (givenOf 𝓤 H 𝓜 𝓖) (𝓜 .mem) (𝓡 .run) (tablesOf 𝓤 H 𝓜 (tables 𝓤 H 𝓜 𝓡 code.env))
     (cited 𝓤 H (C-message-of 𝓤 H (𝓖 .A) (𝓜 .mem) (𝓡 .run)) 𝓜 𝓡 code.env #door·exchange·message-of def-message-of.routine code.calls-door·exchange·message-of (met-message-of.met 𝓤 H 𝓜 𝓖 𝓡))
-    (cited 𝓤 H (C-consider 𝓤 H (𝓖 .A) (𝓜 .mem) (𝓡 .run)) 𝓜 𝓡 code.env #server-lent·stepping·consider def-consider.routine code.calls-server-lent·stepping·consider (met-consider.met 𝓤 H 𝓜 𝓖 𝓡))
+    (cited 𝓤 H (C-consider 𝓤 H (𝓖 .A) (𝓜 .mem) (𝓡 .run)) 𝓜 𝓡 code.env #server-read·stepping·consider def-consider.routine code.calls-server-read·stepping·consider (met-consider.met 𝓤 H 𝓜 𝓖 𝓡))
     (cited 𝓤 H (C-judged 𝓤 H (𝓖 .A) (𝓜 .mem) (𝓡 .run)) 𝓜 𝓡 code.env #door·exchange·judged def-judged.routine code.calls-door·exchange·judged (met-judged.met 𝓤 H 𝓜 𝓖 𝓡)))

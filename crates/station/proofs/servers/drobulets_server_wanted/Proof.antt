@@ -44,7 +44,7 @@ use Rattle.server.proofs.Wants as RWants
 use Rattle.server.proofs.Wants.Laws as LWants
 use Rattle.server_read.proofs.wanting.wanted as fn-wanted
 use Rattle.server_read.proofs.wanting.wanted.Symbol as def-wanted
-use Rattle.server_read.proofs.wanting.wanted.Symbol.{name as #server-lent·wanting·wanted}
+use Rattle.server_read.proofs.wanting.wanted.Symbol.{name as #server-read·wanting·wanted}
 use Rattle.server_read.proofs.wanting.wanted.Met as met-wanted
 use Rattle.station.proofs.servers.drobulets_server_wanted.Key.{name as #station·servers·drobulets-server-wanted}
 use Rattle.station.proofs.servers.drobulets_server_wanted as f
@@ -107,7 +107,7 @@ module _ {M : Type 1} (𝓤 : URA M) (H : Heap 𝓤) (A : Atoms 𝓤) (W : Given
   goes-1 : ent 𝓤 (⋆ 𝓤 H A (‵ (flft κ q) ∷ ‵ lent ∷ [])) (C-wanted 𝓤 H A at-mem routines .pre (to-1))
   goes-1 = qed W (‵ (flft κ q) ∷ ‵ lent ∷ []) ∵ nothing ! $ move ! (2 ∷ 0 ∷ []) $ fjoin ! $ nothing ! $ move ! (2 ∷ 0 ∷ []) $ join ! $ join ! $ frame ! $ done !
 
-  module _ (𝓣 : Tables 𝓤 H) (known-wanted : Triple 𝓤 (𝓣 .C #server-lent·wanting·wanted) (C-wanted 𝓤 H A at-mem routines)) (was : Sound s) (l0 l1 : ℕ) where
+  module _ (𝓣 : Tables 𝓤 H) (known-wanted : Triple 𝓤 (𝓣 .C #server-read·wanting·wanted) (C-wanted 𝓤 H A at-mem routines)) (was : Sound s) (l0 l1 : ℕ) where
     abbrev En : Env 𝓤 H
     En = (LWants.mir, l0) ∷ ((tyRef (named 0) imm (pointee (RServer.the-row .written))), l1) ∷ []
 
@@ -128,7 +128,7 @@ module _ {M : Type 1} (𝓤 : URA M) (H : Heap 𝓤) (A : Atoms 𝓤) (W : Given
         rewrite ! 4 (λ (w : Val). ‵ (fat fullShare LWants.mir l0 zero w)) (spelled-as RWants.the-row (LL.vals RWants.the-type LWants.the-laws) (LL.tells RWants.the-type LWants.the-laws) x (told-1 s) v is (e ∙ told-1-is s)) refl $
         step-2 (is-spelled RWants.the-row (LL.vals RWants.the-type LWants.the-laws) (LL.tells RWants.the-type LWants.the-laws) x (told-1 s) v is (e ∙ told-1-is s)))))))
 
-  module _ (𝓣 : Tables 𝓤 H) (known-wanted : Triple 𝓤 (𝓣 .C #server-lent·wanting·wanted) (C-wanted 𝓤 H A at-mem routines)) where
+  module _ (𝓣 : Tables 𝓤 H) (known-wanted : Triple 𝓤 (𝓣 .C #server-read·wanting·wanted) (C-wanted 𝓤 H A at-mem routines)) where
     walk : ent 𝓤 (onEntry 𝓤 H A f.signature (κ, tt) (q, tt) a at) (WpFn 𝓤 H (𝓣 .C) (𝓣 .Λ) code.function (vptr b o ∷ []) Post)
     walk =
         qed W ((‵ (flft κ q) ⊛ tokens) ∷ ‵ (owns (ShrRef (named 0) κ RServer.the-row ∷ []) a at) ∷ []) ∵
@@ -139,7 +139,7 @@ module _ {M : Type 1} (𝓤 : URA M) (H : Heap 𝓤) (A : Atoms 𝓤) (W : Given
         shuts ! tt RServer.the-row q″ s ((LL.vals RServer.the-type LServer.the-laws) s) b o $ move ! (1 ∷ []) $ drop ! $ keep ! (0 ∷ 1 ∷ 2 ∷ 3 ∷ 4 ∷ 5 ∷ []) $ step-1 𝓣 known-wanted was l0 l1))))
 
 module _ {M : Type 1} (𝓤 : URA M) (H : Heap 𝓤) (A : Atoms 𝓤) (W : Given 𝓤 H A) (at-mem : Memory → SProp 𝓤) (routines : Routine → Fun 𝓤) where
-  walks : (𝓣 : Tables 𝓤 H) → Triple 𝓤 (𝓣 .C #server-lent·wanting·wanted) (C-wanted 𝓤 H A at-mem routines) → Walks 𝓤 H A f.ended stayed (WpFn 𝓤 H (𝓣 .C) (𝓣 .Λ) code.function) (f.clauses 𝓤 H A at-mem routines)
+  walks : (𝓣 : Tables 𝓤 H) → Triple 𝓤 (𝓣 .C #server-read·wanting·wanted) (C-wanted 𝓤 H A at-mem routines) → Walks 𝓤 H A f.ended stayed (WpFn 𝓤 H (𝓣 .C) (𝓣 .Λ) code.function) (f.clauses 𝓤 H A at-mem routines)
   walks 𝓣 k0 = walked 𝓤 H A f.ended stayed (f.clauses 𝓤 H A at-mem routines) (WpFn 𝓤 H (𝓣 .C) (𝓣 .Λ) code.function) (λ κs. (ptr-vals, tt))
       (λ κs. (shr-tells (named 0) (κs .0) RServer.the-row, tt))
       (λ κs qs bounds a _ are. via 𝓤 _ (fst∗ 𝓤 _ (emp 𝓤)) (walk 𝓤 H A W at-mem routines (κs .0) (qs .0) (a .0 .ptr .0) (a .0 .ptr .1) (a .0 .name) (a .0 .now) 𝓣 k0))
@@ -148,7 +148,7 @@ module _ {M : Type 1} (𝓤 : URA M) (H : Heap 𝓤) (A : Atoms 𝓤) (W : Given
   goes = (goes-dropped 𝓤 H A W 1 (shrRefTo (0 ∷ []) tt (plain (λ _. RServer.the-row))) yes (λ κs x f. refl), tt)
 
 meets : {M : Type 1} (𝓤 : URA M) (H : Heap 𝓤) (A : Atoms 𝓤) (W : Given 𝓤 H A) (at-mem : Memory → SProp 𝓤) (routines : Routine → Fun 𝓤) (𝓣 : Tables 𝓤 H)
-    → Triple 𝓤 (𝓣 .C #server-lent·wanting·wanted) (C-wanted 𝓤 H A at-mem routines) → Meets 𝓤 H A f.signature (WpFn 𝓤 H (𝓣 .C) (𝓣 .Λ) code.function) (f.spec 𝓤 H A at-mem routines)
+    → Triple 𝓤 (𝓣 .C #server-read·wanting·wanted) (C-wanted 𝓤 H A at-mem routines) → Meets 𝓤 H A f.signature (WpFn 𝓤 H (𝓣 .C) (𝓣 .Λ) code.function) (f.spec 𝓤 H A at-mem routines)
 meets 𝓤 H A W at-mem routines 𝓣 k0 = walk-meets 𝓤 H A f.ended stayed W (goes 𝓤 H A W at-mem routines) (f.clauses 𝓤 H A at-mem routines) (WpFn 𝓤 H (𝓣 .C) (𝓣 .Λ) code.function) (WpFn-mono 𝓤 H (W .laws) 𝓣 code.function)
     (walks 𝓤 H A W at-mem routines 𝓣 k0)
 
@@ -158,4 +158,4 @@ drobulets-server-wanted-spec 𝓤 H 𝓜 𝓖 𝓡 =
     entered 𝓤 H (tripleOf 𝓤 H (𝓖 .A) f.signature (f.spec 𝓤 H (𝓖 .A) (𝓜 .mem) (𝓡 .run)))
     (tables 𝓤 H 𝓜 𝓡 code.env .C) (tables 𝓤 H 𝓜 𝓡 code.env .Λ) #station·servers·drobulets-server-wanted code.function (code.unfolded 𝓤 H 𝓜 𝓡)
     (meets 𝓤 H (𝓖 .A) (givenOf 𝓤 H 𝓜 𝓖) (𝓜 .mem) (𝓡 .run) (tablesOf 𝓤 H 𝓜 (tables 𝓤 H 𝓜 𝓡 code.env))
-    (cited 𝓤 H (C-wanted 𝓤 H (𝓖 .A) (𝓜 .mem) (𝓡 .run)) 𝓜 𝓡 code.env #server-lent·wanting·wanted def-wanted.routine code.calls-server-lent·wanting·wanted (met-wanted.met 𝓤 H 𝓜 𝓖 𝓡)))
+    (cited 𝓤 H (C-wanted 𝓤 H (𝓖 .A) (𝓜 .mem) (𝓡 .run)) 𝓜 𝓡 code.env #server-read·wanting·wanted def-wanted.routine code.calls-server-read·wanting·wanted (met-wanted.met 𝓤 H 𝓜 𝓖 𝓡)))

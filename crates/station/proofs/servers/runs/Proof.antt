@@ -73,35 +73,35 @@ use Rattle.server_plan.proofs.Plan as RPlan
 use Rattle.server_plan.proofs.Plan.Laws as LPlan
 use Rattle.server_read.proofs.form.head as fn-head
 use Rattle.server_read.proofs.form.head.Symbol as def-head
-use Rattle.server_read.proofs.form.head.Symbol.{name as #server-lent·form·head}
+use Rattle.server_read.proofs.form.head.Symbol.{name as #server-read·form·head}
 use Rattle.server_read.proofs.form.head.Met as met-head
 use Rattle.server_read.proofs.form.form_in as fn-form-in
 use Rattle.server_read.proofs.form.form_in.Symbol as def-form-in
-use Rattle.server_read.proofs.form.form_in.Symbol.{name as #server-lent·form·form-in}
+use Rattle.server_read.proofs.form.form_in.Symbol.{name as #server-read·form·form-in}
 use Rattle.server_read.proofs.form.form_in.Met as met-form-in
 use Rattle.server_read.proofs.form.form_word as fn-form-word
 use Rattle.server_read.proofs.form.form_word.Symbol as def-form-word
-use Rattle.server_read.proofs.form.form_word.Symbol.{name as #server-lent·form·form-word}
+use Rattle.server_read.proofs.form.form_word.Symbol.{name as #server-read·form·form-word}
 use Rattle.server_read.proofs.form.form_word.Met as met-form-word
 use Rattle.server_plan.proofs.waiting_in as fn-waiting-in
 use Rattle.server_plan.proofs.waiting_in.Symbol as def-waiting-in
-use Rattle.server_plan.proofs.waiting_in.Symbol.{name as #server-lent·planning·waiting-in}
+use Rattle.server_plan.proofs.waiting_in.Symbol.{name as #server-plan·waiting-in}
 use Rattle.server_plan.proofs.waiting_in.Met as met-waiting-in
 use Rattle.server_plan.proofs.plan_by as fn-plan-by
 use Rattle.server_plan.proofs.plan_by.Symbol as def-plan-by
-use Rattle.server_plan.proofs.plan_by.Symbol.{name as #server-lent·planning·plan-by}
+use Rattle.server_plan.proofs.plan_by.Symbol.{name as #server-plan·plan-by}
 use Rattle.server_plan.proofs.plan_by.Met as met-plan-by
 use Rattle.server_plan.proofs.planned_plan as fn-planned-plan
 use Rattle.server_plan.proofs.planned_plan.Symbol as def-planned-plan
-use Rattle.server_plan.proofs.planned_plan.Symbol.{name as #server-lent·planning·planned-plan}
+use Rattle.server_plan.proofs.planned_plan.Symbol.{name as #server-plan·planned-plan}
 use Rattle.server_plan.proofs.planned_plan.Met as met-planned-plan
 use Rattle.server_plan.proofs.planned_end as fn-planned-end
 use Rattle.server_plan.proofs.planned_end.Symbol as def-planned-end
-use Rattle.server_plan.proofs.planned_end.Symbol.{name as #server-lent·planning·planned-end}
+use Rattle.server_plan.proofs.planned_end.Symbol.{name as #server-plan·planned-end}
 use Rattle.server_plan.proofs.planned_end.Met as met-planned-end
 use Rattle.server_plan.proofs.planned_many as fn-planned-many
 use Rattle.server_plan.proofs.planned_many.Symbol as def-planned-many
-use Rattle.server_plan.proofs.planned_many.Symbol.{name as #server-lent·planning·planned-many}
+use Rattle.server_plan.proofs.planned_many.Symbol.{name as #server-plan·planned-many}
 use Rattle.server_plan.proofs.planned_many.Met as met-planned-many
 use Rattle.server_lent.proofs.running.run_planned as fn-run-planned
 use Rattle.server_lent.proofs.running.run_planned.Symbol as def-run-planned
@@ -328,7 +328,7 @@ module _ {M : Type 1} (𝓤 : URA M) (H : Heap 𝓤) (A : Atoms 𝓤) (W : Given
   goes-15 : Is RPlanned.the-row (told-9 s limit) ((LL.val RPlanned.the-type LPlanned.the-laws (told-9 s limit)) ∷ []) → ent 𝓤 (emp 𝓤) (C-planned-counted 𝓤 H A at-mem routines .pre (to-15))
   goes-15 is0 = qed W ([]) ∵ nothing ! $ owned ! RPlanned.the-row (Is RPlanned.the-row) (LL.makes RPlanned.the-type LPlanned.the-plain 𝓤 H A) (told-9 s limit) _ is0 $ fjoin ! $ nothing ! $ join ! $ frame ! $ done !
 
-  module _ (𝓣 : Tables 𝓤 H) (known-head : Triple 𝓤 (𝓣 .C #server-lent·form·head) (C-head 𝓤 H A at-mem routines)) (known-form-in : Triple 𝓤 (𝓣 .C #server-lent·form·form-in) (C-form-in 𝓤 H A at-mem routines)) (known-form-word : Triple 𝓤 (𝓣 .C #server-lent·form·form-word) (C-form-word 𝓤 H A at-mem routines)) (known-waiting-in : Triple 𝓤 (𝓣 .C #server-lent·planning·waiting-in) (C-waiting-in 𝓤 H A at-mem routines)) (known-plan-by : Triple 𝓤 (𝓣 .C #server-lent·planning·plan-by) (C-plan-by 𝓤 H A at-mem routines)) (known-planned-plan : Triple 𝓤 (𝓣 .C #server-lent·planning·planned-plan) (C-planned-plan 𝓤 H A at-mem routines)) (known-planned-end : Triple 𝓤 (𝓣 .C #server-lent·planning·planned-end) (C-planned-end 𝓤 H A at-mem routines)) (known-planned-many : Triple 𝓤 (𝓣 .C #server-lent·planning·planned-many) (C-planned-many 𝓤 H A at-mem routines)) (known-run-planned : Triple 𝓤 (𝓣 .C #server-lent·running·run-planned) (C-run-planned 𝓤 H A at-mem routines)) (known-planned-counted : Triple 𝓤 (𝓣 .C #door·told·planned-counted) (C-planned-counted 𝓤 H A at-mem routines)) (is-limit : Is u32 limit ((vint w32 limit) ∷ [])) (was : Sound s) (l0 l1 l2 l3 l4 l5 l6 l7 l8 l9 l10 l11 l12 l13 l14 l15 l16 : ℕ) where
+  module _ (𝓣 : Tables 𝓤 H) (known-head : Triple 𝓤 (𝓣 .C #server-read·form·head) (C-head 𝓤 H A at-mem routines)) (known-form-in : Triple 𝓤 (𝓣 .C #server-read·form·form-in) (C-form-in 𝓤 H A at-mem routines)) (known-form-word : Triple 𝓤 (𝓣 .C #server-read·form·form-word) (C-form-word 𝓤 H A at-mem routines)) (known-waiting-in : Triple 𝓤 (𝓣 .C #server-plan·waiting-in) (C-waiting-in 𝓤 H A at-mem routines)) (known-plan-by : Triple 𝓤 (𝓣 .C #server-plan·plan-by) (C-plan-by 𝓤 H A at-mem routines)) (known-planned-plan : Triple 𝓤 (𝓣 .C #server-plan·planned-plan) (C-planned-plan 𝓤 H A at-mem routines)) (known-planned-end : Triple 𝓤 (𝓣 .C #server-plan·planned-end) (C-planned-end 𝓤 H A at-mem routines)) (known-planned-many : Triple 𝓤 (𝓣 .C #server-plan·planned-many) (C-planned-many 𝓤 H A at-mem routines)) (known-run-planned : Triple 𝓤 (𝓣 .C #server-lent·running·run-planned) (C-run-planned 𝓤 H A at-mem routines)) (known-planned-counted : Triple 𝓤 (𝓣 .C #door·told·planned-counted) (C-planned-counted 𝓤 H A at-mem routines)) (is-limit : Is u32 limit ((vint w32 limit) ∷ [])) (was : Sound s) (l0 l1 l2 l3 l4 l5 l6 l7 l8 l9 l10 l11 l12 l13 l14 l15 l16 : ℕ) where
     abbrev En : Env 𝓤 H
     En = (LCounted.mir, l0) ∷ ((tyRef (named 0) mut (pointee (RServer.the-row .written))), l1) ∷ ((tyInt w32), l2) ∷ (LForm.mir, l3) ∷ (LForm.mir, l4) ∷ ((tyInt w64), l5) ∷ (LWaiting.mir, l6) ∷ (LLog.mir, l7) ∷ (LPlanned.mir, l8) ∷ (LPlan.mir, l9) ∷ (LLog.mir, l10) ∷ ((tyInt w64), l11) ∷ ((tyInt w64), l12) ∷ ((tyRef erased imm (pointee (RServer.the-row .written))), l13) ∷ ((tyRef erased imm (pointee (RServer.the-row .written))), l14) ∷ ((tyRef erased imm (pointee (RServer.the-row .written))), l15) ∷ ((tyRef erased mut (pointee (RServer.the-row .written))), l16) ∷ []
 
@@ -487,7 +487,7 @@ module _ {M : Type 1} (𝓤 : URA M) (H : Heap 𝓤) (A : Atoms 𝓤) (W : Given
         back-cell ! tt RServer.the-row (Is RServer.the-row) (shows 𝓤 H A RServer.the-row) (LL.makes RServer.the-type LServer.the-plain 𝓤 H A) (LL.vals RServer.the-type LServer.the-laws) (LL.tells RServer.the-type LServer.the-laws) b o s $
         step-3 (is-spelled RForm.the-row (LL.vals RForm.the-type LForm.the-laws) (LL.tells RForm.the-type LForm.the-laws) x (told-1 s limit) v is (e ∙ told-1-is s limit))))))))
 
-  module _ (𝓣 : Tables 𝓤 H) (known-head : Triple 𝓤 (𝓣 .C #server-lent·form·head) (C-head 𝓤 H A at-mem routines)) (known-form-in : Triple 𝓤 (𝓣 .C #server-lent·form·form-in) (C-form-in 𝓤 H A at-mem routines)) (known-form-word : Triple 𝓤 (𝓣 .C #server-lent·form·form-word) (C-form-word 𝓤 H A at-mem routines)) (known-waiting-in : Triple 𝓤 (𝓣 .C #server-lent·planning·waiting-in) (C-waiting-in 𝓤 H A at-mem routines)) (known-plan-by : Triple 𝓤 (𝓣 .C #server-lent·planning·plan-by) (C-plan-by 𝓤 H A at-mem routines)) (known-planned-plan : Triple 𝓤 (𝓣 .C #server-lent·planning·planned-plan) (C-planned-plan 𝓤 H A at-mem routines)) (known-planned-end : Triple 𝓤 (𝓣 .C #server-lent·planning·planned-end) (C-planned-end 𝓤 H A at-mem routines)) (known-planned-many : Triple 𝓤 (𝓣 .C #server-lent·planning·planned-many) (C-planned-many 𝓤 H A at-mem routines)) (known-run-planned : Triple 𝓤 (𝓣 .C #server-lent·running·run-planned) (C-run-planned 𝓤 H A at-mem routines)) (known-planned-counted : Triple 𝓤 (𝓣 .C #door·told·planned-counted) (C-planned-counted 𝓤 H A at-mem routines)) where
+  module _ (𝓣 : Tables 𝓤 H) (known-head : Triple 𝓤 (𝓣 .C #server-read·form·head) (C-head 𝓤 H A at-mem routines)) (known-form-in : Triple 𝓤 (𝓣 .C #server-read·form·form-in) (C-form-in 𝓤 H A at-mem routines)) (known-form-word : Triple 𝓤 (𝓣 .C #server-read·form·form-word) (C-form-word 𝓤 H A at-mem routines)) (known-waiting-in : Triple 𝓤 (𝓣 .C #server-plan·waiting-in) (C-waiting-in 𝓤 H A at-mem routines)) (known-plan-by : Triple 𝓤 (𝓣 .C #server-plan·plan-by) (C-plan-by 𝓤 H A at-mem routines)) (known-planned-plan : Triple 𝓤 (𝓣 .C #server-plan·planned-plan) (C-planned-plan 𝓤 H A at-mem routines)) (known-planned-end : Triple 𝓤 (𝓣 .C #server-plan·planned-end) (C-planned-end 𝓤 H A at-mem routines)) (known-planned-many : Triple 𝓤 (𝓣 .C #server-plan·planned-many) (C-planned-many 𝓤 H A at-mem routines)) (known-run-planned : Triple 𝓤 (𝓣 .C #server-lent·running·run-planned) (C-run-planned 𝓤 H A at-mem routines)) (known-planned-counted : Triple 𝓤 (𝓣 .C #door·told·planned-counted) (C-planned-counted 𝓤 H A at-mem routines)) where
     walk : Is u32 limit ((vint w32 limit) ∷ []) → ent 𝓤 (onEntry 𝓤 H A f.signature (κ, tt) (q, tt) a at) (WpFn 𝓤 H (𝓣 .C) (𝓣 .Λ) code.function (vptr b o ∷ (vint w32 limit) ∷ []) Post)
     walk is-limit =
         qed W ((‵ (flft κ q) ⊛ tokens) ∷ ‵ (owns (MutRef (named 0) κ RServer.the-row ∷ u32 ∷ []) a at) ∷ []) ∵
@@ -500,7 +500,7 @@ module _ {M : Type 1} (𝓤 : URA M) (H : Heap 𝓤) (A : Atoms 𝓤) (W : Given
         step-1 𝓣 known-head known-form-in known-form-word known-waiting-in known-plan-by known-planned-plan known-planned-end known-planned-many known-run-planned known-planned-counted is-limit was l0 l1 l2 l3 l4 l5 l6 l7 l8 l9 l10 l11 l12 l13 l14 l15 l16)))))))))))))))))))
 
 module _ {M : Type 1} (𝓤 : URA M) (H : Heap 𝓤) (A : Atoms 𝓤) (W : Given 𝓤 H A) (at-mem : Memory → SProp 𝓤) (routines : Routine → Fun 𝓤) where
-  walks : (𝓣 : Tables 𝓤 H) → Triple 𝓤 (𝓣 .C #server-lent·form·head) (C-head 𝓤 H A at-mem routines) → Triple 𝓤 (𝓣 .C #server-lent·form·form-in) (C-form-in 𝓤 H A at-mem routines) → Triple 𝓤 (𝓣 .C #server-lent·form·form-word) (C-form-word 𝓤 H A at-mem routines) → Triple 𝓤 (𝓣 .C #server-lent·planning·waiting-in) (C-waiting-in 𝓤 H A at-mem routines) → Triple 𝓤 (𝓣 .C #server-lent·planning·plan-by) (C-plan-by 𝓤 H A at-mem routines) → Triple 𝓤 (𝓣 .C #server-lent·planning·planned-plan) (C-planned-plan 𝓤 H A at-mem routines) → Triple 𝓤 (𝓣 .C #server-lent·planning·planned-end) (C-planned-end 𝓤 H A at-mem routines) → Triple 𝓤 (𝓣 .C #server-lent·planning·planned-many) (C-planned-many 𝓤 H A at-mem routines) → Triple 𝓤 (𝓣 .C #server-lent·running·run-planned) (C-run-planned 𝓤 H A at-mem routines) → Triple 𝓤 (𝓣 .C #door·told·planned-counted) (C-planned-counted 𝓤 H A at-mem routines) → Walks 𝓤 H A f.ended stayed (WpFn 𝓤 H (𝓣 .C) (𝓣 .Λ) code.function) (f.clauses 𝓤 H A at-mem routines)
+  walks : (𝓣 : Tables 𝓤 H) → Triple 𝓤 (𝓣 .C #server-read·form·head) (C-head 𝓤 H A at-mem routines) → Triple 𝓤 (𝓣 .C #server-read·form·form-in) (C-form-in 𝓤 H A at-mem routines) → Triple 𝓤 (𝓣 .C #server-read·form·form-word) (C-form-word 𝓤 H A at-mem routines) → Triple 𝓤 (𝓣 .C #server-plan·waiting-in) (C-waiting-in 𝓤 H A at-mem routines) → Triple 𝓤 (𝓣 .C #server-plan·plan-by) (C-plan-by 𝓤 H A at-mem routines) → Triple 𝓤 (𝓣 .C #server-plan·planned-plan) (C-planned-plan 𝓤 H A at-mem routines) → Triple 𝓤 (𝓣 .C #server-plan·planned-end) (C-planned-end 𝓤 H A at-mem routines) → Triple 𝓤 (𝓣 .C #server-plan·planned-many) (C-planned-many 𝓤 H A at-mem routines) → Triple 𝓤 (𝓣 .C #server-lent·running·run-planned) (C-run-planned 𝓤 H A at-mem routines) → Triple 𝓤 (𝓣 .C #door·told·planned-counted) (C-planned-counted 𝓤 H A at-mem routines) → Walks 𝓤 H A f.ended stayed (WpFn 𝓤 H (𝓣 .C) (𝓣 .Λ) code.function) (f.clauses 𝓤 H A at-mem routines)
   walks 𝓣 k0 k1 k2 k3 k4 k5 k6 k7 k8 k9 = walked 𝓤 H A f.ended stayed (f.clauses 𝓤 H A at-mem routines) (WpFn 𝓤 H (𝓣 .C) (𝓣 .Λ) code.function) (λ κs. (ptr-vals, ((uint-vals w32), tt)))
       (λ κs. (mut-tells (named 0) (κs .0) RServer.the-row, ((uint-tells w32), tt)))
       (λ κs qs bounds a _ are. via 𝓤 _ (fst∗ 𝓤 _ (emp 𝓤)) (walk 𝓤 H A W at-mem routines (κs .0) (qs .0) (a .0 .ptr .0) (a .0 .ptr .1) (a .0 .name) (a .0 .now) (a .1 .0) 𝓣 k0 k1 k2 k3 k4 k5 k6 k7 k8 k9 (are .1 .0)))
@@ -509,7 +509,7 @@ module _ {M : Type 1} (𝓤 : URA M) (H : Heap 𝓤) (A : Atoms 𝓤) (W : Given
   goes = (goes-ref 𝓤 H A W 1 0 tt (plain (λ _. RServer.the-row)), (goes-dropped 𝓤 H A W 1 (plain (λ _. u32)) yes (λ κs x f. refl), tt))
 
 meets : {M : Type 1} (𝓤 : URA M) (H : Heap 𝓤) (A : Atoms 𝓤) (W : Given 𝓤 H A) (at-mem : Memory → SProp 𝓤) (routines : Routine → Fun 𝓤) (𝓣 : Tables 𝓤 H)
-    → Triple 𝓤 (𝓣 .C #server-lent·form·head) (C-head 𝓤 H A at-mem routines) → Triple 𝓤 (𝓣 .C #server-lent·form·form-in) (C-form-in 𝓤 H A at-mem routines) → Triple 𝓤 (𝓣 .C #server-lent·form·form-word) (C-form-word 𝓤 H A at-mem routines) → Triple 𝓤 (𝓣 .C #server-lent·planning·waiting-in) (C-waiting-in 𝓤 H A at-mem routines) → Triple 𝓤 (𝓣 .C #server-lent·planning·plan-by) (C-plan-by 𝓤 H A at-mem routines) → Triple 𝓤 (𝓣 .C #server-lent·planning·planned-plan) (C-planned-plan 𝓤 H A at-mem routines) → Triple 𝓤 (𝓣 .C #server-lent·planning·planned-end) (C-planned-end 𝓤 H A at-mem routines) → Triple 𝓤 (𝓣 .C #server-lent·planning·planned-many) (C-planned-many 𝓤 H A at-mem routines) → Triple 𝓤 (𝓣 .C #server-lent·running·run-planned) (C-run-planned 𝓤 H A at-mem routines) → Triple 𝓤 (𝓣 .C #door·told·planned-counted) (C-planned-counted 𝓤 H A at-mem routines) → Meets 𝓤 H A f.signature (WpFn 𝓤 H (𝓣 .C) (𝓣 .Λ) code.function) (f.spec 𝓤 H A at-mem routines)
+    → Triple 𝓤 (𝓣 .C #server-read·form·head) (C-head 𝓤 H A at-mem routines) → Triple 𝓤 (𝓣 .C #server-read·form·form-in) (C-form-in 𝓤 H A at-mem routines) → Triple 𝓤 (𝓣 .C #server-read·form·form-word) (C-form-word 𝓤 H A at-mem routines) → Triple 𝓤 (𝓣 .C #server-plan·waiting-in) (C-waiting-in 𝓤 H A at-mem routines) → Triple 𝓤 (𝓣 .C #server-plan·plan-by) (C-plan-by 𝓤 H A at-mem routines) → Triple 𝓤 (𝓣 .C #server-plan·planned-plan) (C-planned-plan 𝓤 H A at-mem routines) → Triple 𝓤 (𝓣 .C #server-plan·planned-end) (C-planned-end 𝓤 H A at-mem routines) → Triple 𝓤 (𝓣 .C #server-plan·planned-many) (C-planned-many 𝓤 H A at-mem routines) → Triple 𝓤 (𝓣 .C #server-lent·running·run-planned) (C-run-planned 𝓤 H A at-mem routines) → Triple 𝓤 (𝓣 .C #door·told·planned-counted) (C-planned-counted 𝓤 H A at-mem routines) → Meets 𝓤 H A f.signature (WpFn 𝓤 H (𝓣 .C) (𝓣 .Λ) code.function) (f.spec 𝓤 H A at-mem routines)
 meets 𝓤 H A W at-mem routines 𝓣 k0 k1 k2 k3 k4 k5 k6 k7 k8 k9 = walk-meets 𝓤 H A f.ended stayed W (goes 𝓤 H A W at-mem routines) (f.clauses 𝓤 H A at-mem routines) (WpFn 𝓤 H (𝓣 .C) (𝓣 .Λ) code.function) (WpFn-mono 𝓤 H (W .laws) 𝓣 code.function)
     (walks 𝓤 H A W at-mem routines 𝓣 k0 k1 k2 k3 k4 k5 k6 k7 k8 k9)
 
@@ -519,13 +519,13 @@ runs-spec 𝓤 H 𝓜 𝓖 𝓡 =
     entered 𝓤 H (tripleOf 𝓤 H (𝓖 .A) f.signature (f.spec 𝓤 H (𝓖 .A) (𝓜 .mem) (𝓡 .run)))
     (tables 𝓤 H 𝓜 𝓡 code.env .C) (tables 𝓤 H 𝓜 𝓡 code.env .Λ) #station·servers·runs code.function (code.unfolded 𝓤 H 𝓜 𝓡)
     (meets 𝓤 H (𝓖 .A) (givenOf 𝓤 H 𝓜 𝓖) (𝓜 .mem) (𝓡 .run) (tablesOf 𝓤 H 𝓜 (tables 𝓤 H 𝓜 𝓡 code.env))
-    (cited 𝓤 H (C-head 𝓤 H (𝓖 .A) (𝓜 .mem) (𝓡 .run)) 𝓜 𝓡 code.env #server-lent·form·head def-head.routine code.calls-server-lent·form·head (met-head.met 𝓤 H 𝓜 𝓖 𝓡))
-    (cited 𝓤 H (C-form-in 𝓤 H (𝓖 .A) (𝓜 .mem) (𝓡 .run)) 𝓜 𝓡 code.env #server-lent·form·form-in def-form-in.routine code.calls-server-lent·form·form-in (met-form-in.met 𝓤 H 𝓜 𝓖 𝓡))
-    (cited 𝓤 H (C-form-word 𝓤 H (𝓖 .A) (𝓜 .mem) (𝓡 .run)) 𝓜 𝓡 code.env #server-lent·form·form-word def-form-word.routine code.calls-server-lent·form·form-word (met-form-word.met 𝓤 H 𝓜 𝓖 𝓡))
-    (cited 𝓤 H (C-waiting-in 𝓤 H (𝓖 .A) (𝓜 .mem) (𝓡 .run)) 𝓜 𝓡 code.env #server-lent·planning·waiting-in def-waiting-in.routine code.calls-server-lent·planning·waiting-in (met-waiting-in.met 𝓤 H 𝓜 𝓖 𝓡))
-    (cited 𝓤 H (C-plan-by 𝓤 H (𝓖 .A) (𝓜 .mem) (𝓡 .run)) 𝓜 𝓡 code.env #server-lent·planning·plan-by def-plan-by.routine code.calls-server-lent·planning·plan-by (met-plan-by.met 𝓤 H 𝓜 𝓖 𝓡))
-    (cited 𝓤 H (C-planned-plan 𝓤 H (𝓖 .A) (𝓜 .mem) (𝓡 .run)) 𝓜 𝓡 code.env #server-lent·planning·planned-plan def-planned-plan.routine code.calls-server-lent·planning·planned-plan (met-planned-plan.met 𝓤 H 𝓜 𝓖 𝓡))
-    (cited 𝓤 H (C-planned-end 𝓤 H (𝓖 .A) (𝓜 .mem) (𝓡 .run)) 𝓜 𝓡 code.env #server-lent·planning·planned-end def-planned-end.routine code.calls-server-lent·planning·planned-end (met-planned-end.met 𝓤 H 𝓜 𝓖 𝓡))
-    (cited 𝓤 H (C-planned-many 𝓤 H (𝓖 .A) (𝓜 .mem) (𝓡 .run)) 𝓜 𝓡 code.env #server-lent·planning·planned-many def-planned-many.routine code.calls-server-lent·planning·planned-many (met-planned-many.met 𝓤 H 𝓜 𝓖 𝓡))
+    (cited 𝓤 H (C-head 𝓤 H (𝓖 .A) (𝓜 .mem) (𝓡 .run)) 𝓜 𝓡 code.env #server-read·form·head def-head.routine code.calls-server-read·form·head (met-head.met 𝓤 H 𝓜 𝓖 𝓡))
+    (cited 𝓤 H (C-form-in 𝓤 H (𝓖 .A) (𝓜 .mem) (𝓡 .run)) 𝓜 𝓡 code.env #server-read·form·form-in def-form-in.routine code.calls-server-read·form·form-in (met-form-in.met 𝓤 H 𝓜 𝓖 𝓡))
+    (cited 𝓤 H (C-form-word 𝓤 H (𝓖 .A) (𝓜 .mem) (𝓡 .run)) 𝓜 𝓡 code.env #server-read·form·form-word def-form-word.routine code.calls-server-read·form·form-word (met-form-word.met 𝓤 H 𝓜 𝓖 𝓡))
+    (cited 𝓤 H (C-waiting-in 𝓤 H (𝓖 .A) (𝓜 .mem) (𝓡 .run)) 𝓜 𝓡 code.env #server-plan·waiting-in def-waiting-in.routine code.calls-server-plan·waiting-in (met-waiting-in.met 𝓤 H 𝓜 𝓖 𝓡))
+    (cited 𝓤 H (C-plan-by 𝓤 H (𝓖 .A) (𝓜 .mem) (𝓡 .run)) 𝓜 𝓡 code.env #server-plan·plan-by def-plan-by.routine code.calls-server-plan·plan-by (met-plan-by.met 𝓤 H 𝓜 𝓖 𝓡))
+    (cited 𝓤 H (C-planned-plan 𝓤 H (𝓖 .A) (𝓜 .mem) (𝓡 .run)) 𝓜 𝓡 code.env #server-plan·planned-plan def-planned-plan.routine code.calls-server-plan·planned-plan (met-planned-plan.met 𝓤 H 𝓜 𝓖 𝓡))
+    (cited 𝓤 H (C-planned-end 𝓤 H (𝓖 .A) (𝓜 .mem) (𝓡 .run)) 𝓜 𝓡 code.env #server-plan·planned-end def-planned-end.routine code.calls-server-plan·planned-end (met-planned-end.met 𝓤 H 𝓜 𝓖 𝓡))
+    (cited 𝓤 H (C-planned-many 𝓤 H (𝓖 .A) (𝓜 .mem) (𝓡 .run)) 𝓜 𝓡 code.env #server-plan·planned-many def-planned-many.routine code.calls-server-plan·planned-many (met-planned-many.met 𝓤 H 𝓜 𝓖 𝓡))
     (cited 𝓤 H (C-run-planned 𝓤 H (𝓖 .A) (𝓜 .mem) (𝓡 .run)) 𝓜 𝓡 code.env #server-lent·running·run-planned def-run-planned.routine code.calls-server-lent·running·run-planned (met-run-planned.met 𝓤 H 𝓜 𝓖 𝓡))
     (cited 𝓤 H (C-planned-counted 𝓤 H (𝓖 .A) (𝓜 .mem) (𝓡 .run)) 𝓜 𝓡 code.env #door·told·planned-counted def-planned-counted.routine code.calls-door·told·planned-counted (met-planned-counted.met 𝓤 H 𝓜 𝓖 𝓡)))
