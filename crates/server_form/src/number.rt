@@ -14,16 +14,20 @@ use rules::transaction::pieces_on;
 use rules::transaction::touched;
 use server::Record;
 
-// Without pieces nothing else is there but a promise.
+// Without pieces nothing else is there but a promise. Of most numbers there is not even that, and then no ballot is judged.
 fn bare_formed(logged: bool, v: Record) -> bool
     ensures { λ r. ⌜ r ≡ bareFormed logged v ⌝ }
 {
-    !bad_ballot(v.promise)
-        & !(v.arrival.some != 0)
+    let alone = !(v.arrival.some != 0)
         & !(v.accepted.some != 0)
         & !(v.committed.some != 0)
         & !logged
-        & !(v.ran != 0)
+        & !(v.ran != 0);
+    let promised = v.promise != 0;
+    if promised {
+        return !bad_ballot(v.promise) & alone;
+    }
+    alone
 }
 
 // A set that is there keeps rule 3.
