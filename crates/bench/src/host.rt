@@ -1,7 +1,7 @@
 // What hosts call, on a state that stands in a local of this program: it is lent, and handed on as the call left it.
 ghost use mathlib.Core.Path.{_≡_};
 ghost use Rattle.wire.specs.Encoding.{encode};
-ghost use Rattle.codec.specs.Answers.{answer};
+ghost use Rattle.encoding.specs.Answers.{answer};
 ghost use Rattle.server.specs.Host.{fresh, wanted};
 ghost use Rattle.server.specs.Run.{run};
 ghost use Rattle.door.specs.Exchange.{take, takeReply};

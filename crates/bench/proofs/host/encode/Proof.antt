@@ -40,10 +40,10 @@ use Rattle.lent.proofs.Lending.{lends-cell, back-cell}
 use Rattle.lent.proofs.Values.{spelled-as, is-spelled}
 use denote.Struct.Laws as LL
 use Rattle.wire.specs.Encoding.{encode}
-use Rattle.codec.specs.Answers.{answer}
-use Rattle.codec.specs.declared.Encoded.{Encoded}
-use Rattle.codec.proofs.Encoded as REncoded
-use Rattle.codec.proofs.Encoded.Laws as LEncoded
+use Rattle.encoding.specs.Answers.{answer}
+use Rattle.encoding.specs.declared.Encoded.{Encoded}
+use Rattle.encoding.proofs.Encoded as REncoded
+use Rattle.encoding.proofs.Encoded.Laws as LEncoded
 use Rattle.wire.specs.declared.Message.{Message}
 use Rattle.wire.proofs.Message as RMessage
 use Rattle.wire.proofs.Message.Laws as LMessage

@@ -39,7 +39,7 @@ use denote.Exit.{yes}
 use Rattle.lent.proofs.Lending.{lends-cell-mut, back-cell-mut}
 use Rattle.lent.proofs.Values.{spelled-as, is-spelled}
 use denote.Struct.Laws as LL
-use Rattle.codec.specs.Answers.{answer}
+use Rattle.encoding.specs.Answers.{answer}
 use Rattle.door.specs.Exchange.{take}
 use Rattle.bench.specs.declared.host.Exchanged.{Exchanged}
 use Rattle.bench.proofs.host.Exchanged as RExchanged
