@@ -126,7 +126,7 @@ module _ (s : Server) (limit : ℕ) (records : length (s .records) ≡ 64) (keys
 
   log-is : plan .log ≡ z .log
   unfolding plannedBy
-  log-is = plan-is s limit records keys words
+  log-is = plan-is s limit records words
 
   reached : z ≡ runs us s
   reached = turns-runs most s

@@ -32,7 +32,7 @@ one-noted : (n : Server) (u : ℕ) → n .log .count < 64 → noted (n .log) u �
 unfolding noted runOne
 one-noted n u l = rw (lt-ltb _ _ l)
 
-module _ (s : Server) (limit : ℕ) (records : length (s .records) ≡ 64) (keys : length (s .counters .list) ≡ 16) (words : (t : ℕ) → t < 64 → depsAt s t < 2 ^ 64) where
+module _ (s : Server) (limit : ℕ) (records : length (s .records) ≡ 64) (words : (t : ℕ) → t < 64 → depsAt s t < 2 ^ 64) where
   abbrev most : ℕ
   most = allowed (formed s) limit
 
@@ -74,4 +74,4 @@ module _ (s : Server) (limit : ℕ) (records : length (s .records) ≡ 64) (keys
           ∙ ih ne
 
   pub plan-is : plannedLog rows (committedWord s) most (readLog (s .log) .word) (s .log) ≡ turns most s .log
-  plan-is = plan-going most (readLog (s .log) .word) s (going-start s most (readLog (s .log) .word) records keys (asked .fine) refl)
+  plan-is = plan-going most (readLog (s .log) .word) s (going-start s most (readLog (s .log) .word) records (asked .fine) refl)

@@ -9,16 +9,14 @@ use lib.ListN.{length}
 use Rattle.masks.specs.Bits.{has, union}
 use Rattle.masks.specs.Folds.{tab, over, size}
 use Rattle.masks.proofs.Laws.{Sub, sub-refl, sub-trans, sub-left}
-use Rattle.masks.proofs.FoldLaws.{over-keeps}
 use Rattle.graph.specs.Walk.{rowsOf, nextGroup}
 use Rattle.graph.proofs.Rows.{Words}
 use Rattle.graph.proofs.Groups.{Kept}
 use Rattle.graph.proofs.NextGroups.{next-keeps, next-adds, next-room}
-use Rattle.counters.proofs.PerKey.{counters-length}
 use Rattle.counters.proofs.PerPiece.{counted-less}
 use Rattle.server.specs.declared.Ran.{Ran}
 use Rattle.server.specs.declared.Server.{Server}
-use Rattle.server.specs.Held.{recordAt, shard, committedWord, ranWord}
+use Rattle.server.specs.Held.{committedWord, ranWord}
 use Rattle.server.specs.Form.{formed}
 use Rattle.server.specs.Run.{depsOf, nextRun, runOne, runGroup, run, runAll, turns, ranFrom, ranNone}
 use Rattle.server.proofs.FormParts.{formed-parts}
@@ -84,10 +82,9 @@ pub record Going (s : Server) (limit ran : ℕ) (n : Server) (left : ℕ) : Type
   pub kept : 0 < left → Kept (depsOf s) (committedWord s) ran
   pub count : 0 < left → n .log .count ≡ size ran
   pub long : length (n .records) ≡ 64
-  pub keys : length (n .counters .list) ≡ 16
 
-pub going-start : (s : Server) (limit ran : ℕ) → length (s .records) ≡ 64 → length (s .counters .list) ≡ 16 → (0 < limit → formed s ≡ true) → ran ≡ readLog (s .log) .word → Going s limit ran s limit
-going-start s limit ran l k f e = record {
+pub going-start : (s : Server) (limit ran : ℕ) → length (s .records) ≡ 64 → (0 < limit → formed s ≡ true) → ran ≡ readLog (s .log) .word → Going s limit ran s limit
+going-start s limit ran l f e = record {
   few = omega arith;
   same = refl;
   deps = refl;
@@ -97,18 +94,11 @@ going-start s limit ran l k f e = record {
   kept = λ h. subst (Kept (depsOf s) (committedWord s)) (sym (e ∙ read-ran s (f h))) (log-kept s (formed-parts s (f h)));
   count = λ h. sym (ap size (e ∙ read-log s (f h)) ∙ lined-size (s .log) (formed-lined s (formed-parts s (f h))));
   long = l;
-  keys = k;
 }
 
 group-over : (n : Server) (g : ℕ) → runGroup n g ≡ over runOne n g 64
 unfolding runGroup
 group-over n g = refl
-
-over-keys : (n : Server) (g u : ℕ) → length (over runOne n g u .counters .list) ≡ length (n .counters .list)
-over-keys n g u = over-keeps (λ x. length (x .counters .list) ≡ length (n .counters .list)) runOne n g u refl (λ x i l e p. one x i ∙ p)
-  where
-    one : (x : Server) (i : ℕ) → length (runOne x i .counters .list) ≡ length (x .counters .list)
-    one x i = unfold runOne in counters-length (recordAt x i .pieces) (shard x) (x .counters)
 
 turns-next : (left : ℕ) (n : Server) → 0 < left → (nextRun n ≡ 0 → ⊥) → turns (left - 1) (runGroup n (nextRun n)) ≡ turns left n
 turns-next zero n h ne = absurd (omega (arith, h))
@@ -151,7 +141,6 @@ module _ {s : Server} {limit ran : ℕ} {n : Server} {left : ℕ} (go : Going s 
           kept = λ l. rw next-of (next-keeps (depsOf s) (asked .words) (committedWord s) ran (go .kept h));
           count = λ l. many ∙ ap (λ (x : ℕ). x + size g) (go .count h) ∙ sym added;
           long = ap (λ (x : Server). length (x .records)) all ∙ group-long n g ∙ go .long;
-          keys = ap (λ (x : Server). length (x .counters .list)) e ∙ over-keys n g 64 ∙ go .keys;
         }
       where
         added : size (union ran g) ≡ size ran + size g
