@@ -139,6 +139,12 @@ def computed(local, rvalue, body):
     array, base = place_of(body[1][1])[0], place_of(body[1][2][1])
     item, last = place_of(body[2][1])[0], body[3]
     spot = dict(index=operand(rvalue[2]), temps=(local, array, item), base=base[0], fields=[x for x in base[1] if x != 'deref'])
+    if last[2][0] == 'op2':
+        within = computed(place_of(last[1])[0], last[2], body[3:])
+        if within.what != 'read':
+            raise SystemExit(f'no walk over {last}: an element within an element is only read')
+        within.size, within.first = within.size + 3, Statement('read', 3, inner=[], **spot)
+        return within
     to, path = place_of(last[1])
     if path:
         return Statement('store', 4, source=operand(last[2][1]), inner=path[1:], **spot)

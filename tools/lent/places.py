@@ -1,4 +1,4 @@
-"""Reads and stores: of the lent state, of a field of it or of a field of a field, of an element of an array that is one, and of a field of such an element."""
+"""Reads and stores: of the lent state, of a field of it or of a field of a field, of an element of an array that is one, and of a field of such an element; and reads of an element of an array within such an element."""
 from lent.held import Value, pointer
 from lent.kinds import Number
 from lent.mir import Literal
@@ -59,11 +59,16 @@ class Spot:
 
     def __init__(self, walk, st):
         self.walk, self.st = walk, st
-        of_state = st.base == 1
-        self.entry = 'cell' if of_state else f'l{st.base}'
-        self.of_state = of_state
-        self.struct = walk.state if of_state else walk.local[st.base].kind
-        self.term, self.fact = (walk.cur, walk.was) if of_state else (walk.local[st.base].term, walk.local[st.base].fact)
+        self.first = Spot(walk, st.first) if hasattr(st, 'first') else None
+        self.of_state = self.first.of_state if self.first else st.base == 1
+        self.entry = self.first.entry if self.first else 'cell' if self.of_state else f'l{st.base}'
+        if self.first:
+            self.struct, self.term, self.fact = self.first.field.kind, self.first.element(), self.first.element_is()
+        elif self.of_state:
+            self.struct, self.term, self.fact = walk.state, walk.cur, walk.was
+        else:
+            value = walk.local[st.base]
+            self.struct, self.term, self.fact = value.kind, value.term, value.fact
         self.outer = []
         for k in st.fields[:-1]:
             part = Part(walk, self.struct, k)
@@ -73,28 +78,29 @@ class Spot:
         self.inner = None
         if st.index is not None:
             self.nothing = walk.cite(*nothing_of(self.field.kind.denot, self.field.kind.crate)) if hasattr(self.field.kind, 'path') else '0'
-            self.below = None
+            self.i = walk.local[st.index].term
+            self.below = walk.shown(f'{self.i} < {self.field.many}', f'{walk.tellers.get(self.i, "index")}-below')
             self.inner = Part(walk, self.field.kind, st.inner[0]) if st.inner else None
 
     def way(self, to):
         """The place that a statement names: behind the reference, or within the local."""
         for part, *_ in reversed(self.outer):
             to = way(part, to)
-        return f'(hop ! (look ! {self.walk.held.at("l1")} refl) {to})' if self.of_state else to
+        pointer_at = self.first.st.temps[2] if self.first else 1
+        return f'(hop ! (look ! {self.walk.held.at(f"l{pointer_at}")} refl) {to})' if self.first or self.of_state else to
 
     def found(self):
         """How the cell of the field is found."""
-        cell = '(whole !)'
+        cell = self.first.in_element() if self.first else '(whole !)'
         for part in [part for part, *_ in self.outer] + [self.field]:
-            cell = find(part, cell, self.of_state)
+            cell = find(part, cell, bool(self.first) or self.of_state)
         return cell
 
     def reach(self):
         """The steps to where the element begins."""
-        w, h, st, f = self.walk, self.walk.held, self.st, self.field
-        index = w.local[st.index]
-        self.i = index.term
-        self.below = w.shown(f'{self.i} < {f.many}', f'{w.tellers.get(self.i, "index")}-below')
+        w, st, f = self.walk, self.st, self.field
+        if self.first:
+            self.first.reach()
         bytes_, array, item = st.temps
         word = f'(in-word {f.many} (size {f.kind.mir}) {self.i} tt {self.below})'
         w.assign(bytes_, f'bin ! {w.load(st.index)} (lit ! tt) {word}', pointer('_'), f'(tt, {word})')
@@ -106,7 +112,7 @@ class Spot:
         return f'(fld ! {{τ = tyArray {f.kind.mir} {f.many}}} {{d = {f.start}}} ({f.tag}-lies .0) (stop !))'
 
     def leave(self):
-        self.walk.forget(self.st.temps)
+        self.walk.forget(self.st.temps + (self.first.st.temps if self.first else ()))
 
     def elements(self):
         f = self.field

@@ -33,7 +33,7 @@ use Rattle.encoding.specs.Answers.{answer}
 use Rattle.server.specs.Host.{fresh, wanted}
 use Rattle.server.specs.Run.{run, runAll}
 use Rattle.server_lent.specs.First.{recordsFresh}
-use Rattle.server_lent.specs.Listed.{fewOf, ranListed, ranPieces, ranPlanned, withCounters}
+use Rattle.server_lent.specs.Listed.{fewOf, piecesOf, ranListed, ranPieces, ranPlanned, withCounters}
 use Rattle.server_plan.specs.Planning.{waitingIn}
 use Rattle.server_read.specs.InPlace.{earlierIn, formBegun, formIn}
 use Rattle.server_read.specs.Wanting.{namedIn}
@@ -53,8 +53,8 @@ server-lent·first·fresh-records s many r r₂ s′ s′₂ m₁ m₂ = (m₁ .
 pub server-lent·first·fresh : (s : Server) (id : ℕ) (r r₂ : ℕ) (s′ s′₂ : Server) → ((r ≡ fresh (s) id .refusal) × (s′ ≡ fresh (s) id .server)) → ((r₂ ≡ fresh (s) id .refusal) × (s′₂ ≡ fresh (s) id .server)) → (r ≡ r₂) × (s′ ≡ s′₂)
 server-lent·first·fresh s id r r₂ s′ s′₂ m₁ m₂ = (m₁ .0 ∙ sym (m₂ .0), m₁ .1 ∙ sym (m₂ .1))
 
-pub server-lent·running·run-pieces : (s : Server) (ps : Pieces) (k : ℕ) (many : ℕ) (r r₂ : Values) (s′ s′₂ : Server) → ((r ≡ ranPieces ps k (s .counters) many .values) × (s′ ≡ withCounters (s) (ranPieces ps k (s .counters) many .counters))) → ((r₂ ≡ ranPieces ps k (s .counters) many .values) × (s′₂ ≡ withCounters (s) (ranPieces ps k (s .counters) many .counters))) → (r ≡ r₂) × (s′ ≡ s′₂)
-server-lent·running·run-pieces s ps k many r r₂ s′ s′₂ m₁ m₂ = (m₁ .0 ∙ sym (m₂ .0), m₁ .1 ∙ sym (m₂ .1))
+pub server-lent·running·run-pieces : (s : Server) (number : ℕ) (k : ℕ) (many : ℕ) (r r₂ : Values) (s′ s′₂ : Server) → ((r ≡ ranPieces (piecesOf (s) number) k (s .counters) many .values) × (s′ ≡ withCounters (s) (ranPieces (piecesOf (s) number) k (s .counters) many .counters))) → ((r₂ ≡ ranPieces (piecesOf (s) number) k (s .counters) many .values) × (s′₂ ≡ withCounters (s) (ranPieces (piecesOf (s) number) k (s .counters) many .counters))) → (r ≡ r₂) × (s′ ≡ s′₂)
+server-lent·running·run-pieces s number k many r r₂ s′ s′₂ m₁ m₂ = (m₁ .0 ∙ sym (m₂ .0), m₁ .1 ∙ sym (m₂ .1))
 
 pub server-lent·running·run-listed : (s : Server) (p : Plan) (many : ℕ) (r r₂ : ℕ) (s′ s′₂ : Server) → ((r ≡ many) × (s′ ≡ ranListed p (s) many)) → ((r₂ ≡ many) × (s′₂ ≡ ranListed p (s) many)) → (r ≡ r₂) × (s′ ≡ s′₂)
 server-lent·running·run-listed s p many r r₂ s′ s′₂ m₁ m₂ = (m₁ .0 ∙ sym (m₂ .0), m₁ .1 ∙ sym (m₂ .1))

@@ -7,6 +7,7 @@ use Rattle.server_lent.proofs.first.first_id.Reads as server-lent·first·first
 use Rattle.server_lent.proofs.first.first_counters.Reads as server-lent·first·first-counters-contract
 use Rattle.server_lent.proofs.first.first_log.Reads as server-lent·first·first-log-contract
 use Rattle.server_lent.proofs.running.spot.Reads as server-lent·running·spot-contract
+use Rattle.server_lent.proofs.running.counter_place.Reads as server-lent·running·counter-place-contract
 use Rattle.server_lent.proofs.running.left_by.Reads as server-lent·running·left-by-contract
 use Rattle.server_lent.proofs.running.result_by.Reads as server-lent·running·result-by-contract
 use Rattle.server_lent.proofs.running.results_by.Reads as server-lent·running·results-by-contract
@@ -30,6 +31,9 @@ server-lent·first·first-log κ a x y e e′ p q = p ∙ sym q
 
 pub server-lent·running·spot : Answers server-lent·running·spot-contract.Post
 server-lent·running·spot κ a x y e e′ p q = p ∙ sym q
+
+pub server-lent·running·counter-place : Answers server-lent·running·counter-place-contract.Post
+server-lent·running·counter-place κ a x y e e′ p q = p ∙ sym q
 
 pub server-lent·running·left-by : Answers server-lent·running·left-by-contract.Post
 server-lent·running·left-by κ a x y e e′ p q = p ∙ sym q

@@ -31,7 +31,7 @@ use Rattle.server.specs.declared.Log.{Log}
 use Rattle.server.specs.declared.Record.{Record}
 use Rattle.server.specs.declared.Server.{Server}
 use Rattle.server.specs.Held.{noRecord, recordAt, putRecord}
-use Rattle.server_lent.specs.Listed.{leftBy, resultBy, resultsBy, resultPlace, pieceTurn, ranPieces, withCounters, spotOf, listedAt, ranListed, fewOf}
+use Rattle.server_lent.specs.Listed.{counterPlace, leftBy, resultBy, resultsBy, resultPlace, pieceTurn, ranPieces, piecesOf, withCounters, spotOf, listedAt, ranListed, fewOf}
 
 -- ---- the pieces of a number
 
@@ -95,12 +95,15 @@ few-all many l = ⊎-elim (λ h. rw h) (λ h. let g = ltb-false many 64 h in let
 
 -- ---- what the walks of `run_pieces`, `run_listed` and `run_planned` ask
 
-module _ (s : Server) (ps : Pieces) (k many i : ℕ) where
-  pub run-pieces-place-of-below : keys.placeOf (pieceAt ps i .key) < 16
-  run-pieces-place-of-below = in-place.place-lt (pieceAt ps i .key) _ refl
+module _ (s : Server) (number k many i : ℕ) where
+  pub run-pieces-place-of-below : placeOf number < 64
+  run-pieces-place-of-below = place-lt number _ refl
 
-  pub run-pieces-result-place-below : resultPlace (ranPieces ps k (s .counters) i .values .count) < 8
-  run-pieces-result-place-below = result-place-lt (ranPieces ps k (s .counters) i .values .count)
+  pub run-pieces-counter-place-below : counterPlace (pieceAt (piecesOf s number) i) < 16
+  run-pieces-counter-place-below = in-place.place-lt (pieceAt (piecesOf s number) i .key) _ refl
+
+  pub run-pieces-result-place-below : resultPlace (ranPieces (piecesOf s number) k (s .counters) i .values .count) < 8
+  run-pieces-result-place-below = result-place-lt (ranPieces (piecesOf s number) k (s .counters) i .values .count)
 
 -- a store where one was made just before
 twice : {A : Type 0} (xs : List A) (k : ℕ) (y d : A) (f : A → A) → set (set xs k y) k (f (getD (set xs k y) k d)) ≡ set xs k (f y)

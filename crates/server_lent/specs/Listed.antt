@@ -25,6 +25,10 @@ use Rattle.server_plan.specs.declared.Plan.{Plan}
 
 -- ---- the pieces of a number
 
+-- where the counter of a piece stands, or any place where there is no such key
+abbrev pub counterPlace : Piece → ℕ
+counterPlace p = keys.placeOf (p .key)
+
 -- what a piece leaves where its counter stands: on another shard than k the same
 unfoldable pub leftBy : Piece → ℕ → Counter → Counter
 leftBy p k there = runAt p there .counter if eqb (p .shard) k else there
@@ -42,7 +46,7 @@ resultPlace n = n if ltb n PIECES else 0
 abbrev pub pieceTurn : Pieces → (k i : ℕ) → Executed → Executed
 pieceTurn ps k i e =
     let p = pieceAt ps i in
-    let at = keys.placeOf (p .key) in
+    let at = counterPlace p in
     let there = getD (e .counters .list) at zeroed in
     let n = e .values .count in
     record {
@@ -53,6 +57,10 @@ pieceTurn ps k i e =
 -- the first n pieces
 unfoldable pub ranPieces : Pieces → ℕ → Counters → ℕ → Executed
 ranPieces ps k c n = iter (pieceTurn ps k) (record { counters = c; values = noValues }) n
+
+-- the pieces of a number, or any where there is no such number
+abbrev pub piecesOf : Server → ℕ → Pieces
+piecesOf s n = recordAt s (placeOf n) .pieces
 
 abbrev pub withCounters : Server → Counters → Server
 withCounters s c = record { id = s .id; records = s .records; counters = c; log = s .log }

@@ -1,11 +1,10 @@
 // Runs on a lent server: of each number that runs the pieces are read, and their counters, their results and the flag stored, each in its place.
 ghost use mathlib.Core.Path.{_≡_};
 ghost use Prim.Native.Nat.{_<_, _≤_};
-ghost use Rattle.server_lent.specs.Listed.{leftBy, resultBy, resultsBy, resultPlace, ranPieces, withCounters, spotOf, ranListed, fewOf, ranPlanned};
+ghost use Rattle.server_lent.specs.Listed.{counterPlace, leftBy, resultBy, resultsBy, resultPlace, ranPieces, piecesOf, withCounters, spotOf, ranListed, fewOf, ranPlanned};
 use counters::Counter;
 use messages::blanks::no_values;
 use rules::Piece;
-use rules::Pieces;
 use rules::Value;
 use rules::Values;
 use rules::transaction::used;
@@ -21,6 +20,13 @@ pub fn spot(first: u32, t: usize) -> usize
 {
     let at = first as usize + t;
     if at < 64 { at } else { 0 }
+}
+
+// Where the counter of a piece stands, or any place where there is no such key.
+pub fn counter_place(p: Piece) -> usize
+    ensures { λ r. ⌜ r ≡ counterPlace p ⌝ }
+{
+    counters::place_of(p.key)
 }
 
 // What a piece leaves in the counter at its place: on another shard than `k` what stands there. Nothing is computed for such a piece: the piece after it waits for
@@ -70,17 +76,18 @@ pub fn result_place(n: u32) -> usize
     if n < 8 { n as usize } else { 0 }
 }
 
-// The first `many` pieces of a number, one after the other: those of shard `k` run, each on its counter in its place. Answers the results.
-pub fn run_pieces(s: &mut Server, ps: Pieces, k: u32, many: usize) -> Values
+// The first `many` pieces of a number, one after the other, each read in its place: those of shard `k` run, each on its counter in its place. Answers the results.
+pub fn run_pieces(s: &mut Server, number: u32, k: u32, many: usize) -> Values
     requires { ⌜ many ≤ 8 ⌝ }
-    ensures { λ r. ⌜ (r ≡ ranPieces ps k (now (s .entry) .counters) many .values) × (now (s .exit) ≡ withCounters (now (s .entry)) (ranPieces ps k (now (s .entry) .counters) many .counters)) ⌝ }
+    ensures { λ r. ⌜ (r ≡ ranPieces (piecesOf (now (s .entry)) number) k (now (s .entry) .counters) many .values)
+        × (now (s .exit) ≡ withCounters (now (s .entry)) (ranPieces (piecesOf (now (s .entry)) number) k (now (s .entry) .counters) many .counters)) ⌝ }
 {
+    let u = place_of(number);
     let mut v = no_values();
     let mut i: usize = 0;
     while i < many {
-        let p = ps.list[i];
-        let key = p.key;
-        let at = counters::place_of(key);
+        let p = s.records[u].pieces.list[i];
+        let at = counter_place(p);
         let there = s.counters.list[at];
         let after = left_by(p, k, there);
         s.counters.list[at] = after;
@@ -111,7 +118,7 @@ pub fn run_listed(s: &mut Server, p: Plan, many: usize) -> usize
         let ps = s.records[u].pieces;
         let count = ps.count;
         let walked = used(count);
-        let v = run_pieces(&mut *s, ps, k, walked);
+        let v = run_pieces(&mut *s, n, k, walked);
         s.records[u].values = v;
         s.records[u].ran = 1;
         t += 1;

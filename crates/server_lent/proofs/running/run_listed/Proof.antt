@@ -50,7 +50,7 @@ use Rattle.masks.specs.Folds.{iter}
 use mir.Raw.{raw as rawTy}
 use mir.Syntax.{Body as Code}
 use denote.Struct.Laws as LL
-use Rattle.server_lent.specs.Listed.{ranPieces, withCounters, spotOf, ranListed}
+use Rattle.server_lent.specs.Listed.{ranPieces, piecesOf, withCounters, spotOf, ranListed}
 use Rattle.server_lent.proofs.RunInPlace.{run-listed-spot-below, run-listed-place-of-below, run-listed-run-pieces, run-listed-left-next}
 use Rattle.server_step.specs.OneStore.{placeOf}
 use Rattle.server.specs.Held.{noRecord}
@@ -190,16 +190,16 @@ unfolding told-turn-3 told-turn-9 told-turn-15
 run-pieces-turn-16 s p many i was = run-listed-run-pieces s p many i
 
 unfoldable told-turn-16 : (s : Server) (p : Plan) (many : ℕ) (i : ℕ) → Values
-told-turn-16 s p many i = ranPieces ((getD ((ranListed p s i) .records) (told-turn-9 s p many i) noRecord) .pieces) (p .shard) ((ranListed p s i) .counters) (told-turn-15 s p many i) .values
+told-turn-16 s p many i = ranPieces (piecesOf (ranListed p s i) (getD (p .list) (told-turn-3 s p many i) 0)) (p .shard) ((ranListed p s i) .counters) (told-turn-15 s p many i) .values
 
-told-turn-16-is : (s : Server) (p : Plan) (many : ℕ) (i : ℕ) → ranPieces ((getD ((ranListed p s i) .records) (told-turn-9 s p many i) noRecord) .pieces) (p .shard) ((ranListed p s i) .counters) (told-turn-15 s p many i) .values ≡ told-turn-16 s p many i
+told-turn-16-is : (s : Server) (p : Plan) (many : ℕ) (i : ℕ) → ranPieces (piecesOf (ranListed p s i) (getD (p .list) (told-turn-3 s p many i) 0)) (p .shard) ((ranListed p s i) .counters) (told-turn-15 s p many i) .values ≡ told-turn-16 s p many i
 unfolding told-turn-16
 told-turn-16-is s p many i = refl
 
 unfoldable left-turn-16 : (s : Server) (p : Plan) (many : ℕ) (i : ℕ) → Server
-left-turn-16 s p many i = withCounters (ranListed p s i) (ranPieces ((getD ((ranListed p s i) .records) (told-turn-9 s p many i) noRecord) .pieces) (p .shard) ((ranListed p s i) .counters) (told-turn-15 s p many i) .counters)
+left-turn-16 s p many i = withCounters (ranListed p s i) (ranPieces (piecesOf (ranListed p s i) (getD (p .list) (told-turn-3 s p many i) 0)) (p .shard) ((ranListed p s i) .counters) (told-turn-15 s p many i) .counters)
 
-left-turn-16-is : (s : Server) (p : Plan) (many : ℕ) (i : ℕ) → withCounters (ranListed p s i) (ranPieces ((getD ((ranListed p s i) .records) (told-turn-9 s p many i) noRecord) .pieces) (p .shard) ((ranListed p s i) .counters) (told-turn-15 s p many i) .counters) ≡ left-turn-16 s p many i
+left-turn-16-is : (s : Server) (p : Plan) (many : ℕ) (i : ℕ) → withCounters (ranListed p s i) (ranPieces (piecesOf (ranListed p s i) (getD (p .list) (told-turn-3 s p many i) 0)) (p .shard) ((ranListed p s i) .counters) (told-turn-15 s p many i) .counters) ≡ left-turn-16 s p many i
 unfolding left-turn-16
 left-turn-16-is s p many i = refl
 
@@ -291,10 +291,10 @@ module _ {M : Type 1} (𝓤 : URA M) (H : Heap 𝓤) (A : Atoms 𝓤) (W : Given
   goes-turn-15 i is0 = qed W ([]) ∵ nothing ! $ owned ! u32 (Is u32) (uint-makes 𝓤 H A W w32) (((getD ((ranListed p s i) .records) (told-turn-9 s p many i) noRecord) .pieces) .count) _ is0 $ fjoin ! $ nothing ! $ join ! $ frame ! $ done !
 
   abbrev to-turn-16 : (i : ℕ) (α : ℕ) (δ : GName) → C-run-pieces 𝓤 H A at-mem routines .Ghost
-  to-turn-16 i α δ = ((((α ∷ []), tt), (fullShare, tt), tt, ((record { ptr = (b, o); name = δ; now = (ranListed p s i) }), (((getD ((ranListed p s i) .records) (told-turn-9 s p many i) noRecord) .pieces), ((p .shard), ((told-turn-15 s p many i), tt)))), ((vptr b o) ∷ [], ((LL.val RPieces.the-type LPieces.the-laws ((getD ((ranListed p s i) .records) (told-turn-9 s p many i) noRecord) .pieces)) ∷ [], ((vint w32 (p .shard)) ∷ [], ((vint w64 (told-turn-15 s p many i)) ∷ [], tt))))), tt)
+  to-turn-16 i α δ = ((((α ∷ []), tt), (fullShare, tt), tt, ((record { ptr = (b, o); name = δ; now = (ranListed p s i) }), ((getD (p .list) (told-turn-3 s p many i) 0), ((p .shard), ((told-turn-15 s p many i), tt)))), ((vptr b o) ∷ [], ((vint w32 (getD (p .list) (told-turn-3 s p many i) 0)) ∷ [], ((vint w32 (p .shard)) ∷ [], ((vint w64 (told-turn-15 s p many i)) ∷ [], tt))))), tt)
 
-  goes-turn-16 : (i : ℕ) (α : ℕ) (δ : GName) → Is RPieces.the-row ((getD ((ranListed p s i) .records) (told-turn-9 s p many i) noRecord) .pieces) ((LL.val RPieces.the-type LPieces.the-laws ((getD ((ranListed p s i) .records) (told-turn-9 s p many i) noRecord) .pieces)) ∷ []) → Is u32 (p .shard) ((vint w32 (p .shard)) ∷ []) → Is usize (told-turn-15 s p many i) ((vint w64 (told-turn-15 s p many i)) ∷ []) → (told-turn-15 s p many i) ≤ 8 → ent 𝓤 (⋆ 𝓤 H A (‵ (flft (α ∷ []) fullShare) ∷ ‵ (MutRef (named 0) (α ∷ []) RServer.the-row .own (record { ptr = (b, o); name = δ; now = (ranListed p s i) }) (vptr b o ∷ [])) ∷ [])) (C-run-pieces 𝓤 H A at-mem routines .pre (to-turn-16 i α δ))
-  goes-turn-16 i α δ is0 is1 is2 req = qed W (‵ (flft (α ∷ []) fullShare) ∷ ‵ (MutRef (named 0) (α ∷ []) RServer.the-row .own (record { ptr = (b, o); name = δ; now = (ranListed p s i) }) (vptr b o ∷ [])) ∷ []) ∵ says ! req $ nothing ! $ owned ! usize (Is usize) (uint-makes 𝓤 H A W w64) (told-turn-15 s p many i) _ is2 $ fjoin ! $ owned ! u32 (Is u32) (uint-makes 𝓤 H A W w32) (p .shard) _ is1 $ fjoin ! $ owned ! RPieces.the-row (Is RPieces.the-row) (LL.makes RPieces.the-type LPieces.the-plain 𝓤 H A) ((getD ((ranListed p s i) .records) (told-turn-9 s p many i) noRecord) .pieces) _ is0 $ fjoin ! $ move ! (2 ∷ 0 ∷ []) $ fjoin ! $ nothing ! $ move ! (2 ∷ 0 ∷ []) $ join ! $ frame ! $ done !
+  goes-turn-16 : (i : ℕ) (α : ℕ) (δ : GName) → Is u32 (getD (p .list) (told-turn-3 s p many i) 0) ((vint w32 (getD (p .list) (told-turn-3 s p many i) 0)) ∷ []) → Is u32 (p .shard) ((vint w32 (p .shard)) ∷ []) → Is usize (told-turn-15 s p many i) ((vint w64 (told-turn-15 s p many i)) ∷ []) → (told-turn-15 s p many i) ≤ 8 → ent 𝓤 (⋆ 𝓤 H A (‵ (flft (α ∷ []) fullShare) ∷ ‵ (MutRef (named 0) (α ∷ []) RServer.the-row .own (record { ptr = (b, o); name = δ; now = (ranListed p s i) }) (vptr b o ∷ [])) ∷ [])) (C-run-pieces 𝓤 H A at-mem routines .pre (to-turn-16 i α δ))
+  goes-turn-16 i α δ is0 is1 is2 req = qed W (‵ (flft (α ∷ []) fullShare) ∷ ‵ (MutRef (named 0) (α ∷ []) RServer.the-row .own (record { ptr = (b, o); name = δ; now = (ranListed p s i) }) (vptr b o ∷ [])) ∷ []) ∵ says ! req $ nothing ! $ owned ! usize (Is usize) (uint-makes 𝓤 H A W w64) (told-turn-15 s p many i) _ is2 $ fjoin ! $ owned ! u32 (Is u32) (uint-makes 𝓤 H A W w32) (p .shard) _ is1 $ fjoin ! $ owned ! u32 (Is u32) (uint-makes 𝓤 H A W w32) (getD (p .list) (told-turn-3 s p many i) 0) _ is0 $ fjoin ! $ move ! (2 ∷ 0 ∷ []) $ fjoin ! $ nothing ! $ move ! (2 ∷ 0 ∷ []) $ join ! $ frame ! $ done !
 
   module _ (𝓣 : Tables 𝓤 H) (known-spot : Triple 𝓤 (𝓣 .C #server-lent·running·spot) (C-spot 𝓤 H A at-mem routines)) (known-place-of : Triple 𝓤 (𝓣 .C #server-step·record·place-of) (C-place-of 𝓤 H A at-mem routines)) (known-used : Triple 𝓤 (𝓣 .C #rules·transaction·used) (C-used 𝓤 H A at-mem routines)) (known-run-pieces : Triple 𝓤 (𝓣 .C #server-lent·running·run-pieces) (C-run-pieces 𝓤 H A at-mem routines)) (is-p : Is RPlan.the-row p ((LL.val RPlan.the-type LPlan.the-laws p) ∷ [])) (is-many : Is usize many ((vint w64 many) ∷ [])) (req : many ≤ 64) (was : Sound s) (l0 l1 l2 l3 l4 l5 l6 l7 l8 l9 l10 l11 l12 l13 l14 l15 l16 l17 l18 l19 l20 l21 l22 l23 l24 l25 l26 : ℕ) where
     abbrev En : Env 𝓤 H
@@ -377,13 +377,13 @@ module _ {M : Type 1} (𝓤 : URA M) (H : Heap 𝓤) (A : Atoms 𝓤) (W : Given
             -- server_lent::running::run_pieces
             assigns ! (addr ! (from ! (hop ! (look ! 54 refl) (stop !)))) (from ! (stop !)) (init ! 12 refl (tt, tt)) $
             lends-cell-mut ! tt RServer.the-row (Is RServer.the-row) (shows 𝓤 H A RServer.the-row) (LL.makes RServer.the-type LServer.the-plain 𝓤 H A) (LL.vals RServer.the-type LServer.the-laws) (LL.tells RServer.the-type LServer.the-laws) b o (ranListed p s i) was-i (λ α δ.
-            use2 W (raw (C-run-pieces 𝓤 H A at-mem routines .pre (to-turn-16 i α δ))) (goes-turn-16 i α δ is-turn-10 is-2 is-turn-15 (run-pieces-turn-16 s p many i was)) $
-            calls-at ! (fmOf 𝓤 H (W .laws) 𝓣) (C-run-pieces 𝓤 H A at-mem routines) known-run-pieces (to-turn-16 i α δ) (and-then ! (load ! (from ! (stop !)) (look ! 13 refl)) (and-then ! (load ! (from ! (stop !)) (look ! 35 refl)) (and-then ! (load ! (from ! (stop !)) (look ! 47 refl)) (and-then ! (load ! (from ! (stop !)) (look ! 31 refl)) (no-more !))))) (λ v.
-            use1 W (later (some (λ (r : Values). ((‵ (flft (α ∷ []) fullShare) ⊛ ‵ ftrue) ⊛ ‵ (RValues.the-row .own r (v ∷ []))) ⊛ raw (ensured 𝓤 H A fn-run-pieces.ended (fn-run-pieces.clauses 𝓤 H A at-mem routines) ((α ∷ []), tt) ((record { ptr = (b, o); name = δ; now = (ranListed p s i) }), (((getD ((ranListed p s i) .records) (told-turn-9 s p many i) noRecord) .pieces), ((p .shard), ((told-turn-15 s p many i), tt)))) tt r)))) (id⊢ 𝓤 _) $ await ! tt $ pick ! (λ x.
+            use2 W (raw (C-run-pieces 𝓤 H A at-mem routines .pre (to-turn-16 i α δ))) (goes-turn-16 i α δ is-turn-4 is-2 is-turn-15 (run-pieces-turn-16 s p many i was)) $
+            calls-at ! (fmOf 𝓤 H (W .laws) 𝓣) (C-run-pieces 𝓤 H A at-mem routines) known-run-pieces (to-turn-16 i α δ) (and-then ! (load ! (from ! (stop !)) (look ! 13 refl)) (and-then ! (load ! (from ! (stop !)) (look ! 39 refl)) (and-then ! (load ! (from ! (stop !)) (look ! 47 refl)) (and-then ! (load ! (from ! (stop !)) (look ! 31 refl)) (no-more !))))) (λ v.
+            use1 W (later (some (λ (r : Values). ((‵ (flft (α ∷ []) fullShare) ⊛ ‵ ftrue) ⊛ ‵ (RValues.the-row .own r (v ∷ []))) ⊛ raw (ensured 𝓤 H A fn-run-pieces.ended (fn-run-pieces.clauses 𝓤 H A at-mem routines) ((α ∷ []), tt) ((record { ptr = (b, o); name = δ; now = (ranListed p s i) }), ((getD (p .list) (told-turn-3 s p many i) 0), ((p .shard), ((told-turn-15 s p many i), tt)))) tt r)))) (id⊢ 𝓤 _) $ await ! tt $ pick ! (λ x.
             split ! $ move ! (1 ∷ []) $
-            use1 W (some (λ (zs : Server × (Unit {0} × (Unit {0} × (Unit {0} × (Unit {0}))))). ‵ (lasts fn-run-pieces.ended ((α ∷ []), tt) ((record { ptr = (b, o); name = δ; now = (ranListed p s i) }), (((getD ((ranListed p s i) .records) (told-turn-9 s p many i) noRecord) .pieces), ((p .shard), ((told-turn-15 s p many i), tt)))) zs) ⊛ raw (fact 𝓤 ((x ≡ ranPieces ((getD ((ranListed p s i) .records) (told-turn-9 s p many i) noRecord) .pieces) (p .shard) ((ranListed p s i) .counters) (told-turn-15 s p many i) .values) × (zs .0 ≡ withCounters (ranListed p s i) (ranPieces ((getD ((ranListed p s i) .records) (told-turn-9 s p many i) noRecord) .pieces) (p .shard) ((ranListed p s i) .counters) (told-turn-15 s p many i) .counters)))))) (id⊢ 𝓤 _) $ pick ! (λ zs.
+            use1 W (some (λ (zs : Server × (Unit {0} × (Unit {0} × (Unit {0} × (Unit {0}))))). ‵ (lasts fn-run-pieces.ended ((α ∷ []), tt) ((record { ptr = (b, o); name = δ; now = (ranListed p s i) }), ((getD (p .list) (told-turn-3 s p many i) 0), ((p .shard), ((told-turn-15 s p many i), tt)))) zs) ⊛ raw (fact 𝓤 ((x ≡ ranPieces (piecesOf (ranListed p s i) (getD (p .list) (told-turn-3 s p many i) 0)) (p .shard) ((ranListed p s i) .counters) (told-turn-15 s p many i) .values) × (zs .0 ≡ withCounters (ranListed p s i) (ranPieces (piecesOf (ranListed p s i) (getD (p .list) (told-turn-3 s p many i) 0)) (p .shard) ((ranListed p s i) .counters) (told-turn-15 s p many i) .counters)))))) (id⊢ 𝓤 _) $ pick ! (λ zs.
             split ! $ move ! (1 ∷ []) $
-            heard ! ((x ≡ ranPieces ((getD ((ranListed p s i) .records) (told-turn-9 s p many i) noRecord) .pieces) (p .shard) ((ranListed p s i) .counters) (told-turn-15 s p many i) .values) × (zs .0 ≡ withCounters (ranListed p s i) (ranPieces ((getD ((ranListed p s i) .records) (told-turn-9 s p many i) noRecord) .pieces) (p .shard) ((ranListed p s i) .counters) (told-turn-15 s p many i) .counters))) (λ e.
+            heard ! ((x ≡ ranPieces (piecesOf (ranListed p s i) (getD (p .list) (told-turn-3 s p many i) 0)) (p .shard) ((ranListed p s i) .counters) (told-turn-15 s p many i) .values) × (zs .0 ≡ withCounters (ranListed p s i) (ranPieces (piecesOf (ranListed p s i) (getD (p .list) (told-turn-3 s p many i) 0)) (p .shard) ((ranListed p s i) .counters) (told-turn-15 s p many i) .counters))) (λ e.
             fsplit ! $ move ! (1 ∷ []) $ fsplit ! $ drop ! $ fsplit ! $ drop ! $ fsplit ! $ drop ! $ drop ! $ move ! (1 ∷ []) $ split ! $ move ! (1 ∷ []) $
             facts ! RValues.the-row (Is RValues.the-row) (shows 𝓤 H A RValues.the-row) x (v ∷ []) (λ is. split ! $ move ! (1 ∷ []) $ drop ! $
             land ! (from ! (stop !)) (init ! 30 refl (LL.lawful RValues.the-type LValues.the-laws 𝓤 H A W .typed x _ is .0)) $
