@@ -12,7 +12,7 @@ use rules::cluster::LAST_PHASE;
 use rules::cluster::bad_coordinator;
 use rules::cluster::bad_number;
 use rules::sets::bad_set;
-use rules::transaction::touched;
+use transaction::touched;
 
 pub mod answers; // answers.rt: what one answer holds, and its form
 pub mod counts; // counts.rt: whether the servers that answered decide

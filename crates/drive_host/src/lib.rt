@@ -22,9 +22,9 @@ use rules::ballots::no_next;
 use rules::ballots::origin;
 use rules::cluster::bad_coordinator;
 use rules::cluster::bad_number;
-use rules::transaction::pieces_kept;
-use rules::transaction::too_many;
-use rules::transaction::touched;
+use transaction::pieces_kept;
+use transaction::too_many;
+use transaction::touched;
 
 pub mod order; // order.rt: the refusals of an event on a held drive, in their order
 pub mod sending; // sending.rt: the message due, and to whom

@@ -10,7 +10,7 @@ use messages::asks::commit;
 use messages::asks::pre_accept;
 use messages::asks::prepare;
 use messages::blank;
-use rules::transaction::shards_of;
+use transaction::shards_of;
 use wire::Message;
 
 // By phase: Prepare, PreAccept, Accept, Commit.

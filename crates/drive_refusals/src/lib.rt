@@ -15,9 +15,9 @@ use rules::ballots::bad_ballot;
 use rules::cluster::bad_number;
 use rules::cluster::bad_server;
 use rules::sets::bad_set;
-use rules::transaction::pieces_kept;
-use rules::transaction::same_pieces;
-use rules::transaction::too_many;
+use transaction::pieces_kept;
+use transaction::same_pieces;
+use transaction::too_many;
 use wire::Message;
 
 // 1 of a server's reply: a number, server or ballot out of its range.

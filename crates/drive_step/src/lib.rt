@@ -32,7 +32,7 @@ use rules::MaybeVote;
 use rules::MaybeWord;
 use rules::Pieces;
 use rules::Set;
-use rules::transaction::touched;
+use transaction::touched;
 use wire::Message;
 
 pub mod weighing; // weighing.rt: what a reply comes to, made and taken apart

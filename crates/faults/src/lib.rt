@@ -8,8 +8,8 @@ use rules::ballots::bad_ballot;
 use rules::cluster::bad_number;
 use rules::cluster::bad_server;
 use rules::sets::bad_set;
-use rules::transaction::pieces_kept;
-use rules::transaction::too_many;
+use transaction::pieces_kept;
+use transaction::too_many;
 use wire::Message;
 
 // 12: a count above 8.

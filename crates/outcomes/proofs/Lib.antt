@@ -23,4 +23,5 @@ pub mod ServerRead
 pub mod ServerRun
 pub mod ServerStep
 pub mod Station
+pub mod Transaction
 pub mod Xdr

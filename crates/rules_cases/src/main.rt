@@ -26,14 +26,10 @@ fn line(name: &[u8], n: u64) {
 
 // The refusal that the pieces get by themselves: 12, 2 or none.
 fn refusal(ps: Pieces) -> u64 {
-    if rules::transaction::too_many(ps) {
+    if transaction::too_many(ps) {
         return 12;
     }
-    if rules::transaction::pieces_kept(ps) {
-        0
-    } else {
-        2
-    }
+    if transaction::pieces_kept(ps) { 0 } else { 2 }
 }
 
 fn piece(shard: u32, key: u32, kind: u32, operand: i32) -> Piece {
@@ -137,7 +133,7 @@ fn bad() {
 }
 
 fn conflict(a: Pieces, b: Pieces) -> u64 {
-    rules::conflicts::conflict(0, a, b) as u64
+    transaction::conflicts::conflict(0, a, b) as u64
 }
 
 fn conflicts() {
@@ -171,7 +167,7 @@ fn conflicts() {
     );
     line(
         b"shards of (0,3), (1,0)",
-        rules::transaction::shards_of(two(put, piece(1, 0, 1, 5))),
+        transaction::shards_of(two(put, piece(1, 0, 1, 5))),
     );
 }
 

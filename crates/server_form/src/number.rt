@@ -10,9 +10,9 @@ use rules::ballots::bad_ballot;
 use rules::sets::bad_set;
 use rules::sets::bad_word;
 use rules::sets::members;
-use rules::transaction::pieces_on;
-use rules::transaction::touched;
 use server::Record;
+use transaction::pieces_on;
+use transaction::touched;
 
 // Without pieces nothing else is there but a promise. Of most numbers there is not even that, and then no ballot is judged.
 fn bare_formed(logged: bool, v: Record) -> bool

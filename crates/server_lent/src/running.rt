@@ -7,11 +7,11 @@ use messages::blanks::no_values;
 use rules::Piece;
 use rules::Value;
 use rules::Values;
-use rules::transaction::used;
 use server::Log;
 use server::Server;
 use server_plan::Plan;
 use server_step::record::place_of;
+use transaction::used;
 
 // Where the plan has its number `t`, or any place where it has none.
 pub fn spot(first: u32, t: usize) -> usize

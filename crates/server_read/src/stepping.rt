@@ -8,7 +8,6 @@ use crate::form::form_in;
 use crate::form::head;
 use messages::codes::PRE_ACCEPT;
 use rules::Keys;
-use rules::conflicts::keys_on;
 use server::Record;
 use server::Server;
 use server_step::Considered;
@@ -17,6 +16,7 @@ use server_step::record::change_by;
 use server_step::record::looked;
 use server_step::record::place_of;
 use server_step::refusals::refusal_by;
+use transaction::conflicts::keys_on;
 use wire::Message;
 
 // The numbers that came earlier, among those passed.

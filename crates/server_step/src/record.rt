@@ -7,11 +7,11 @@ ghost use Rattle.server_step.specs.OneStore.{changeBy, looked, placeOf};
 use messages::blank;
 use rules::Keys;
 use rules::cluster::bad_number;
-use rules::conflicts::clashes;
-use rules::conflicts::keys_on;
 use server::Changed;
 use server::Record;
 use server_change::changes::change;
+use transaction::conflicts::clashes;
+use transaction::conflicts::keys_on;
 use wire::Message;
 
 // The place of the record of `t`, or any where `t` is no number.

@@ -8,9 +8,9 @@ use messages::codes::DONE;
 use messages::codes::PRE_ACCEPT;
 use messages::codes::PREPARE;
 use rules::sets::same_set;
-use rules::transaction::same_pieces;
-use rules::transaction::shards_of;
 use server::Record;
+use transaction::same_pieces;
+use transaction::shards_of;
 use wire::Message;
 
 // 12: a code that a server does not take, or a count above 8.

@@ -78,10 +78,10 @@ use Rattle.server_step.proofs.record.place_of as fn-place-of
 use Rattle.server_step.proofs.record.place_of.Symbol as def-place-of
 use Rattle.server_step.proofs.record.place_of.Symbol.{name as #server-step·record·place-of}
 use Rattle.server_step.proofs.record.place_of.Met as met-place-of
-use Rattle.rules.proofs.transaction.used as fn-used
-use Rattle.rules.proofs.transaction.used.Symbol as def-used
-use Rattle.rules.proofs.transaction.used.Symbol.{name as #rules·transaction·used}
-use Rattle.rules.proofs.transaction.used.Met as met-used
+use Rattle.transaction.proofs.used as fn-used
+use Rattle.transaction.proofs.used.Symbol as def-used
+use Rattle.transaction.proofs.used.Symbol.{name as #transaction·used}
+use Rattle.transaction.proofs.used.Met as met-used
 use Rattle.server_lent.proofs.running.run_pieces as fn-run-pieces
 use Rattle.server_lent.proofs.running.run_pieces.Symbol as def-run-pieces
 use Rattle.server_lent.proofs.running.run_pieces.Symbol.{name as #server-lent·running·run-pieces}
@@ -296,7 +296,7 @@ module _ {M : Type 1} (𝓤 : URA M) (H : Heap 𝓤) (A : Atoms 𝓤) (W : Given
   goes-turn-16 : (i : ℕ) (α : ℕ) (δ : GName) → Is u32 (getD (p .list) (told-turn-3 s p many i) 0) ((vint w32 (getD (p .list) (told-turn-3 s p many i) 0)) ∷ []) → Is u32 (p .shard) ((vint w32 (p .shard)) ∷ []) → Is usize (told-turn-15 s p many i) ((vint w64 (told-turn-15 s p many i)) ∷ []) → (told-turn-15 s p many i) ≤ 8 → ent 𝓤 (⋆ 𝓤 H A (‵ (flft (α ∷ []) fullShare) ∷ ‵ (MutRef (named 0) (α ∷ []) RServer.the-row .own (record { ptr = (b, o); name = δ; now = (ranListed p s i) }) (vptr b o ∷ [])) ∷ [])) (C-run-pieces 𝓤 H A at-mem routines .pre (to-turn-16 i α δ))
   goes-turn-16 i α δ is0 is1 is2 req = qed W (‵ (flft (α ∷ []) fullShare) ∷ ‵ (MutRef (named 0) (α ∷ []) RServer.the-row .own (record { ptr = (b, o); name = δ; now = (ranListed p s i) }) (vptr b o ∷ [])) ∷ []) ∵ says ! req $ nothing ! $ owned ! usize (Is usize) (uint-makes 𝓤 H A W w64) (told-turn-15 s p many i) _ is2 $ fjoin ! $ owned ! u32 (Is u32) (uint-makes 𝓤 H A W w32) (p .shard) _ is1 $ fjoin ! $ owned ! u32 (Is u32) (uint-makes 𝓤 H A W w32) (getD (p .list) (told-turn-3 s p many i) 0) _ is0 $ fjoin ! $ move ! (2 ∷ 0 ∷ []) $ fjoin ! $ nothing ! $ move ! (2 ∷ 0 ∷ []) $ join ! $ frame ! $ done !
 
-  module _ (𝓣 : Tables 𝓤 H) (known-spot : Triple 𝓤 (𝓣 .C #server-lent·running·spot) (C-spot 𝓤 H A at-mem routines)) (known-place-of : Triple 𝓤 (𝓣 .C #server-step·record·place-of) (C-place-of 𝓤 H A at-mem routines)) (known-used : Triple 𝓤 (𝓣 .C #rules·transaction·used) (C-used 𝓤 H A at-mem routines)) (known-run-pieces : Triple 𝓤 (𝓣 .C #server-lent·running·run-pieces) (C-run-pieces 𝓤 H A at-mem routines)) (is-p : Is RPlan.the-row p ((LL.val RPlan.the-type LPlan.the-laws p) ∷ [])) (is-many : Is usize many ((vint w64 many) ∷ [])) (req : many ≤ 64) (was : Sound s) (l0 l1 l2 l3 l4 l5 l6 l7 l8 l9 l10 l11 l12 l13 l14 l15 l16 l17 l18 l19 l20 l21 l22 l23 l24 l25 l26 : ℕ) where
+  module _ (𝓣 : Tables 𝓤 H) (known-spot : Triple 𝓤 (𝓣 .C #server-lent·running·spot) (C-spot 𝓤 H A at-mem routines)) (known-place-of : Triple 𝓤 (𝓣 .C #server-step·record·place-of) (C-place-of 𝓤 H A at-mem routines)) (known-used : Triple 𝓤 (𝓣 .C #transaction·used) (C-used 𝓤 H A at-mem routines)) (known-run-pieces : Triple 𝓤 (𝓣 .C #server-lent·running·run-pieces) (C-run-pieces 𝓤 H A at-mem routines)) (is-p : Is RPlan.the-row p ((LL.val RPlan.the-type LPlan.the-laws p) ∷ [])) (is-many : Is usize many ((vint w64 many) ∷ [])) (req : many ≤ 64) (was : Sound s) (l0 l1 l2 l3 l4 l5 l6 l7 l8 l9 l10 l11 l12 l13 l14 l15 l16 l17 l18 l19 l20 l21 l22 l23 l24 l25 l26 : ℕ) where
     abbrev En : Env 𝓤 H
     En = ((tyInt w64), l0) ∷ ((tyRef (named 0) mut (pointee (RServer.the-row .written))), l1) ∷ (LPlan.mir, l2) ∷ ((tyInt w64), l3) ∷ (LPlan.mir, l4) ∷ ((tyInt w32), l5) ∷ ((tyInt w32), l6) ∷ ((tyInt w64), l7) ∷ ((tyInt w64), l8) ∷ ((tyInt w32), l9) ∷ ((tyInt w64), l10) ∷ (LPieces.mir, l11) ∷ ((tyInt w32), l12) ∷ ((tyInt w64), l13) ∷ (LValues.mir, l14) ∷ (tyBool, l15) ∷ ((tyInt w64), l16) ∷ (tyPtr, l17) ∷ (tyPtr, l18) ∷ ((tyInt w32), l19) ∷ (tyPtr, l20) ∷ (tyPtr, l21) ∷ ((tyRef erased mut (pointee (RServer.the-row .written))), l22) ∷ (tyPtr, l23) ∷ (tyPtr, l24) ∷ (tyPtr, l25) ∷ (tyPtr, l26) ∷ []
 
@@ -396,7 +396,7 @@ module _ {M : Type 1} (𝓤 : URA M) (H : Heap 𝓤) (A : Atoms 𝓤) (W : Given
         in-turn-15 : (is-turn-3 : Is usize (told-turn-3 s p many i) ((vint w64 (told-turn-3 s p many i)) ∷ [])) (is-turn-4 : Is u32 (getD (p .list) (told-turn-3 s p many i) 0) ((vint w32 (getD (p .list) (told-turn-3 s p many i) 0)) ∷ [])) (is-turn-9 : Is usize (told-turn-9 s p many i) ((vint w64 (told-turn-9 s p many i)) ∷ [])) (is-turn-10 : Is RPieces.the-row ((getD ((ranListed p s i) .records) (told-turn-9 s p many i) noRecord) .pieces) ((LL.val RPieces.the-type LPieces.the-laws ((getD ((ranListed p s i) .records) (told-turn-9 s p many i) noRecord) .pieces)) ∷ [])) (is-turn-14 : Is u32 (((getD ((ranListed p s i) .records) (told-turn-9 s p many i) noRecord) .pieces) .count) ((vint w32 (((getD ((ranListed p s i) .records) (told-turn-9 s p many i) noRecord) .pieces) .count)) ∷ [])) → Turn (after 14 code-mir.turn-1) (‵ (cellAt fullShare (RServer.the-row .mir) ((LL.vals RServer.the-type LServer.the-laws) (ranListed p s i)) b o) ∷ ‵ (fobor κ q (Body (mem RServer.the-row) b o γ)) ∷ ‵ (fobs γ (RServer.the-row .coded .code s)) ∷ ‵ (fauth γ (RServer.the-row .coded .code s)) ∷ ‵ (froom tyPtr l26 zero) ∷ ‵ (fdies tyPtr l26) ∷ ‵ (froom tyPtr l25 zero) ∷ ‵ (fdies tyPtr l25) ∷ ‵ (froom tyPtr l24 zero) ∷ ‵ (fdies tyPtr l24) ∷ ‵ (froom tyPtr l23 zero) ∷ ‵ (fdies tyPtr l23) ∷ ‵ (froom (tyRef erased mut (pointee (RServer.the-row .written))) l22 zero) ∷ ‵ (fdies (tyRef erased mut (pointee (RServer.the-row .written))) l22) ∷ ‵ (froom tyPtr l21 zero) ∷ ‵ (fdies tyPtr l21) ∷ ‵ (froom tyPtr l20 zero) ∷ ‵ (fdies tyPtr l20) ∷ ‵ (fat fullShare (tyInt w32) l19 zero (vint w32 (getD (p .list) (told-turn-3 s p many i) 0))) ∷ ‵ (fdies (tyInt w32) l19) ∷ ‵ (froom tyPtr l18 zero) ∷ ‵ (fdies tyPtr l18) ∷ ‵ (froom tyPtr l17 zero) ∷ ‵ (fdies tyPtr l17) ∷ ‵ (froom (tyInt w64) l16 zero) ∷ ‵ (fdies (tyInt w64) l16) ∷ ‵ (froom tyBool l15 zero) ∷ ‵ (fdies tyBool l15) ∷ ‵ (froom LValues.mir l14 zero) ∷ ‵ (fdies LValues.mir l14) ∷ ‵ (froom (tyInt w64) l13 zero) ∷ ‵ (fdies (tyInt w64) l13) ∷ ‵ (fat fullShare (tyInt w32) l12 zero (vint w32 (((getD ((ranListed p s i) .records) (told-turn-9 s p many i) noRecord) .pieces) .count))) ∷ ‵ (fdies (tyInt w32) l12) ∷ ‵ (fat fullShare LPieces.mir l11 zero (LL.val RPieces.the-type LPieces.the-laws ((getD ((ranListed p s i) .records) (told-turn-9 s p many i) noRecord) .pieces))) ∷ ‵ (fdies LPieces.mir l11) ∷ ‵ (fat fullShare (tyInt w64) l10 zero (vint w64 (told-turn-9 s p many i))) ∷ ‵ (fdies (tyInt w64) l10) ∷ ‵ (fat fullShare (tyInt w32) l9 zero (vint w32 (getD (p .list) (told-turn-3 s p many i) 0))) ∷ ‵ (fdies (tyInt w32) l9) ∷ ‵ (fat fullShare (tyInt w64) l8 zero (vint w64 (told-turn-3 s p many i))) ∷ ‵ (fdies (tyInt w64) l8) ∷ ‵ (fat fullShare (tyInt w64) l7 zero (vint w64 i)) ∷ ‵ (fdies (tyInt w64) l7) ∷ ‵ (fat fullShare (tyInt w32) l6 zero (vint w32 (p .first))) ∷ ‵ (fdies (tyInt w32) l6) ∷ ‵ (fat fullShare (tyInt w32) l5 zero (vint w32 (p .shard))) ∷ ‵ (fdies (tyInt w32) l5) ∷ ‵ (fat fullShare LPlan.mir l4 zero (LL.val RPlan.the-type LPlan.the-laws p)) ∷ ‵ (fdies LPlan.mir l4) ∷ ‵ (fat fullShare (tyInt w64) l3 zero (vint w64 many)) ∷ ‵ (fdies (tyInt w64) l3) ∷ ‵ (fat fullShare LPlan.mir l2 zero (LL.val RPlan.the-type LPlan.the-laws p)) ∷ ‵ (fdies LPlan.mir l2) ∷ ‵ (fat fullShare (tyRef (named 0) mut (pointee (RServer.the-row .written))) l1 zero (vptr b o)) ∷ ‵ (fdies (tyRef (named 0) mut (pointee (RServer.the-row .written))) l1) ∷ ‵ (froom (tyInt w64) l0 zero) ∷ ‵ (fdies (tyInt w64) l0) ∷ [])
         unfolding afterTurn
         in-turn-15 is-turn-3 is-turn-4 is-turn-9 is-turn-10 is-turn-14 =
-            -- rules::transaction::used
+            -- transaction::used
             use0 W (raw (C-used 𝓤 H A at-mem routines .pre (to-turn-15 i))) (goes-turn-15 i is-turn-14) $
             calls-at ! (fmOf 𝓤 H (W .laws) 𝓣) (C-used 𝓤 H A at-mem routines) known-used (to-turn-15 i) (and-then ! (load ! (from ! (stop !)) (look ! 33 refl)) (no-more !)) (λ v.
             use1 W (later (some (λ (r : ℕ). ((‵ ftrue) ⊛ ‵ (usize .own r (v ∷ []))) ⊛ raw (ensured 𝓤 H A fn-used.ended (fn-used.clauses 𝓤 H A at-mem routines) tt ((((getD ((ranListed p s i) .records) (told-turn-9 s p many i) noRecord) .pieces) .count), tt) tt r)))) (id⊢ 𝓤 _) $ await ! tt $ pick ! (λ x.
@@ -506,7 +506,7 @@ module _ {M : Type 1} (𝓤 : URA M) (H : Heap 𝓤) (A : Atoms 𝓤) (W : Given
     step-1 =
         assigns ! (of-opd ! (load ! (from ! (stop !)) (look ! 52 refl))) (from ! (stop !)) (init ! 48 refl (LL.lawful RPlan.the-type LPlan.the-laws 𝓤 H A W .typed p _ is-p .0)) $ step-2
 
-  module _ (𝓣 : Tables 𝓤 H) (known-spot : Triple 𝓤 (𝓣 .C #server-lent·running·spot) (C-spot 𝓤 H A at-mem routines)) (known-place-of : Triple 𝓤 (𝓣 .C #server-step·record·place-of) (C-place-of 𝓤 H A at-mem routines)) (known-used : Triple 𝓤 (𝓣 .C #rules·transaction·used) (C-used 𝓤 H A at-mem routines)) (known-run-pieces : Triple 𝓤 (𝓣 .C #server-lent·running·run-pieces) (C-run-pieces 𝓤 H A at-mem routines)) where
+  module _ (𝓣 : Tables 𝓤 H) (known-spot : Triple 𝓤 (𝓣 .C #server-lent·running·spot) (C-spot 𝓤 H A at-mem routines)) (known-place-of : Triple 𝓤 (𝓣 .C #server-step·record·place-of) (C-place-of 𝓤 H A at-mem routines)) (known-used : Triple 𝓤 (𝓣 .C #transaction·used) (C-used 𝓤 H A at-mem routines)) (known-run-pieces : Triple 𝓤 (𝓣 .C #server-lent·running·run-pieces) (C-run-pieces 𝓤 H A at-mem routines)) where
     walk : Is RPlan.the-row p ((LL.val RPlan.the-type LPlan.the-laws p) ∷ []) → Is usize many ((vint w64 many) ∷ []) → many ≤ 64 → ent 𝓤 (onEntry 𝓤 H A f.signature (κ, tt) (q, tt) a at) (WpFn 𝓤 H (𝓣 .C) (𝓣 .Λ) code.function (vptr b o ∷ (LL.val RPlan.the-type LPlan.the-laws p) ∷ (vint w64 many) ∷ []) Post)
     walk is-p is-many req =
         qed W ((‵ (flft κ q) ⊛ tokens) ∷ ‵ (owns (MutRef (named 0) κ RServer.the-row ∷ RPlan.the-row ∷ usize ∷ []) a at) ∷ []) ∵
@@ -520,7 +520,7 @@ module _ {M : Type 1} (𝓤 : URA M) (H : Heap 𝓤) (A : Atoms 𝓤) (W : Given
         step-1 𝓣 known-spot known-place-of known-used known-run-pieces is-p is-many req was l0 l1 l2 l3 l4 l5 l6 l7 l8 l9 l10 l11 l12 l13 l14 l15 l16 l17 l18 l19 l20 l21 l22 l23 l24 l25 l26)))))))))))))))))))))))))))))
 
 module _ {M : Type 1} (𝓤 : URA M) (H : Heap 𝓤) (A : Atoms 𝓤) (W : Given 𝓤 H A) (at-mem : Memory → SProp 𝓤) (routines : Routine → Fun 𝓤) where
-  walks : (𝓣 : Tables 𝓤 H) → Triple 𝓤 (𝓣 .C #server-lent·running·spot) (C-spot 𝓤 H A at-mem routines) → Triple 𝓤 (𝓣 .C #server-step·record·place-of) (C-place-of 𝓤 H A at-mem routines) → Triple 𝓤 (𝓣 .C #rules·transaction·used) (C-used 𝓤 H A at-mem routines) → Triple 𝓤 (𝓣 .C #server-lent·running·run-pieces) (C-run-pieces 𝓤 H A at-mem routines) → Walks 𝓤 H A f.ended stayed (WpFn 𝓤 H (𝓣 .C) (𝓣 .Λ) code.function) (f.clauses 𝓤 H A at-mem routines)
+  walks : (𝓣 : Tables 𝓤 H) → Triple 𝓤 (𝓣 .C #server-lent·running·spot) (C-spot 𝓤 H A at-mem routines) → Triple 𝓤 (𝓣 .C #server-step·record·place-of) (C-place-of 𝓤 H A at-mem routines) → Triple 𝓤 (𝓣 .C #transaction·used) (C-used 𝓤 H A at-mem routines) → Triple 𝓤 (𝓣 .C #server-lent·running·run-pieces) (C-run-pieces 𝓤 H A at-mem routines) → Walks 𝓤 H A f.ended stayed (WpFn 𝓤 H (𝓣 .C) (𝓣 .Λ) code.function) (f.clauses 𝓤 H A at-mem routines)
   walks 𝓣 k0 k1 k2 k3 = walked 𝓤 H A f.ended stayed (f.clauses 𝓤 H A at-mem routines) (WpFn 𝓤 H (𝓣 .C) (𝓣 .Λ) code.function) (λ κs. (ptr-vals, ((LL.vals RPlan.the-type LPlan.the-laws), ((uint-vals w64), tt))))
       (λ κs. (mut-tells (named 0) (κs .0) RServer.the-row, ((LL.tells RPlan.the-type LPlan.the-laws), ((uint-tells w64), tt))))
       (λ κs qs bounds a _ are. needs 𝓤 ((a .1 .1 .0) ≤ 64) _ (walk 𝓤 H A W at-mem routines (κs .0) (qs .0) (a .0 .ptr .0) (a .0 .ptr .1) (a .0 .name) (a .0 .now) (a .1 .0) (a .1 .1 .0) 𝓣 k0 k1 k2 k3 (are .1 .0) (are .1 .1 .0)))
@@ -529,7 +529,7 @@ module _ {M : Type 1} (𝓤 : URA M) (H : Heap 𝓤) (A : Atoms 𝓤) (W : Given
   goes = (goes-ref 𝓤 H A W 1 0 tt (plain (λ _. RServer.the-row)), (goes-dropped 𝓤 H A W 1 (plain (λ _. RPlan.the-row)) yes (λ κs x f. refl), (goes-dropped 𝓤 H A W 1 (plain (λ _. usize)) yes (λ κs x f. refl), tt)))
 
 meets : {M : Type 1} (𝓤 : URA M) (H : Heap 𝓤) (A : Atoms 𝓤) (W : Given 𝓤 H A) (at-mem : Memory → SProp 𝓤) (routines : Routine → Fun 𝓤) (𝓣 : Tables 𝓤 H)
-    → Triple 𝓤 (𝓣 .C #server-lent·running·spot) (C-spot 𝓤 H A at-mem routines) → Triple 𝓤 (𝓣 .C #server-step·record·place-of) (C-place-of 𝓤 H A at-mem routines) → Triple 𝓤 (𝓣 .C #rules·transaction·used) (C-used 𝓤 H A at-mem routines) → Triple 𝓤 (𝓣 .C #server-lent·running·run-pieces) (C-run-pieces 𝓤 H A at-mem routines) → Meets 𝓤 H A f.signature (WpFn 𝓤 H (𝓣 .C) (𝓣 .Λ) code.function) (f.spec 𝓤 H A at-mem routines)
+    → Triple 𝓤 (𝓣 .C #server-lent·running·spot) (C-spot 𝓤 H A at-mem routines) → Triple 𝓤 (𝓣 .C #server-step·record·place-of) (C-place-of 𝓤 H A at-mem routines) → Triple 𝓤 (𝓣 .C #transaction·used) (C-used 𝓤 H A at-mem routines) → Triple 𝓤 (𝓣 .C #server-lent·running·run-pieces) (C-run-pieces 𝓤 H A at-mem routines) → Meets 𝓤 H A f.signature (WpFn 𝓤 H (𝓣 .C) (𝓣 .Λ) code.function) (f.spec 𝓤 H A at-mem routines)
 meets 𝓤 H A W at-mem routines 𝓣 k0 k1 k2 k3 = walk-meets 𝓤 H A f.ended stayed W (goes 𝓤 H A W at-mem routines) (f.clauses 𝓤 H A at-mem routines) (WpFn 𝓤 H (𝓣 .C) (𝓣 .Λ) code.function) (WpFn-mono 𝓤 H (W .laws) 𝓣 code.function)
     (walks 𝓤 H A W at-mem routines 𝓣 k0 k1 k2 k3)
 
@@ -541,5 +541,5 @@ run-listed-spec 𝓤 H 𝓜 𝓖 𝓡 =
     (meets 𝓤 H (𝓖 .A) (givenOf 𝓤 H 𝓜 𝓖) (𝓜 .mem) (𝓡 .run) (tablesOf 𝓤 H 𝓜 (tables 𝓤 H 𝓜 𝓡 code.env))
     (cited 𝓤 H (C-spot 𝓤 H (𝓖 .A) (𝓜 .mem) (𝓡 .run)) 𝓜 𝓡 code.env #server-lent·running·spot def-spot.routine code.calls-server-lent·running·spot (met-spot.met 𝓤 H 𝓜 𝓖 𝓡))
     (cited 𝓤 H (C-place-of 𝓤 H (𝓖 .A) (𝓜 .mem) (𝓡 .run)) 𝓜 𝓡 code.env #server-step·record·place-of def-place-of.routine code.calls-server-step·record·place-of (met-place-of.met 𝓤 H 𝓜 𝓖 𝓡))
-    (cited 𝓤 H (C-used 𝓤 H (𝓖 .A) (𝓜 .mem) (𝓡 .run)) 𝓜 𝓡 code.env #rules·transaction·used def-used.routine code.calls-rules·transaction·used (met-used.met 𝓤 H 𝓜 𝓖 𝓡))
+    (cited 𝓤 H (C-used 𝓤 H (𝓖 .A) (𝓜 .mem) (𝓡 .run)) 𝓜 𝓡 code.env #transaction·used def-used.routine code.calls-transaction·used (met-used.met 𝓤 H 𝓜 𝓖 𝓡))
     (cited 𝓤 H (C-run-pieces 𝓤 H (𝓖 .A) (𝓜 .mem) (𝓡 .run)) 𝓜 𝓡 code.env #server-lent·running·run-pieces def-run-pieces.routine code.calls-server-lent·running·run-pieces (met-run-pieces.met 𝓤 H 𝓜 𝓖 𝓡)))

@@ -3,7 +3,7 @@ use Rattle.server_read.proofs.stepping.ask.Statement.{statement}
 use Rattle.server_read.proofs.stepping.ask.Tie as tie
 use Rattle.server_read.proofs.stepping.ask.Reads as reads
 use Rattle.server_read.proofs.stepping.ask.Lts as lts
-use Rattle.rules.proofs.conflicts.keys_on.Reads as keys-on-reads
+use Rattle.transaction.proofs.conflicts.keys_on.Reads as keys-on-reads
 use Rattle.server_step.proofs.record.looked.Reads as looked-reads
 use Rattle.server_step.proofs.refusals.refusal_by.Reads as refusal-by-reads
 
