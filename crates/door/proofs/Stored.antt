@@ -1,98 +1,86 @@
--- A message changes no record of a server but that of its T. So the record that is handed on, put in its place, gives the server after the message. A reply changes a drive by what it comes to. Assumes nothing.
+-- A message changes no record of a server but that of its T. So the record that is handed on, put in its place where nothing refuses, gives the server after the message. A reply changes a drive by what it comes to. Assumes nothing.
 use Prim.Native.Nat.{ℕ, _<_}
 use mathlib.Core.Path.{_≡_, refl, sym, ap, _∙_}
 use mathlib.Core.List.{List}
 use mathlib.Core.Logic.{⊎-elim}
 use mathlib.Core.Bool.{Bool, true, false}
 use native.Mathlib.Omega.{arith}
-use lib.ListN.{length, getD, set}
-use lib.Seq.{getD-set-same, set-getD, set-set}
 use Rattle.masks.proofs.Bools.{true-or-false, true-and-false}
 use Rattle.rules.specs.Flags.{there}
 use Rattle.wire.specs.declared.Message.{Message}
 use Rattle.wire.specs.declared.Decoded.{Decoded}
 use Rattle.wire.specs.Bytes.{decode}
 use Rattle.wire.specs.Encoding.{Encoding, encode}
-use Rattle.server.specs.declared.Record.{Record}
 use Rattle.server.specs.declared.Server.{Server}
 use Rattle.server.specs.declared.Served.{Served}
-use Rattle.server.specs.Held.{noRecord, recordAt, putRecord}
-use Rattle.server.specs.Serve.{serve}
-use Rattle.server_step.specs.OneStore.{placeOf, considered, consideredAt}
+use Rattle.server.specs.Held.{putRecord}
+use Rattle.server_step.specs.declared.Considered.{Considered}
+use Rattle.server_step.specs.OneStore.{considered, consideredAt, stored as served}
 use Rattle.server_step.proofs.StepIsServe.{step-is-serve, place-lt}
 use Rattle.rules.specs.Choice.{_if_else_}
 use Rattle.drive.specs.declared.Drive.{Drive}
 use Rattle.drive.specs.declared.Moved.{Moved}
 use Rattle.drive_step.specs.Weighing.{turned, kept, stored}
 use Rattle.drive_step.proofs.Outcomes.{stored-hears, placed}
-use Rattle.door.specs.Exchange.{nothingTaken, exchanged, take, taken, takeReply, weighReply}
+use Rattle.door.specs.declared.Taken.{Taken}
+use Rattle.door.specs.Exchange.{Exchange, exchanged, take, judgedOf, heardOf, answerOf, writtenOf, takeReply, weighReply}
 
--- what is considered, told by the step
-pub by-step : (s : Server) (m : Message) → length (s .records) ≡ 64
-    → considered s m ≡ record { refusal = serve s m .refusal; place = placeOf (m .t); before = recordAt s (placeOf (m .t)); after = recordAt (serve s m .server) (placeOf (m .t)); reply = serve s m .reply }
-unfolding considered consideredAt
-by-step s m l = rw (← step-is-serve s m, getD-set-same (s .records) (placeOf (m .t)) (considered s m .after) noRecord (rw l (place-lt (m .t) (placeOf (m .t)) refl)))
+-- ---- what is told of a message, what is written, and the server after it, by the refusals of decoding, the step and encoding
 
--- ---- what is exchanged, by the first refusal of decoding and the step, and by that of encoding
+module _ (s : Server) (z : List ℕ) (d : Decoded) (c : Considered) where
+  abbrev o : Taken
+  o = answerOf (judgedOf d c) z
 
-module _ (s : Server) (z : List ℕ) (d : Decoded) (v : Served) (e : Encoding) where
-  abbrev first : ℕ
-  first = d .refusal if there (d .refusal) else v .refusal
+  abbrev asked : Exchange
+  asked = exchanged s z d (served s c) (encode (c .reply) z)
 
-  pub untaken : there first ≡ true → exchanged s z d v e ≡ nothingTaken s z first
-  unfolding exchanged
-  untaken h = ⊎-elim (λ x. rw x) (λ x. rw (x, rw x at h)) (true-or-false (there (d .refusal)))
+  record Agrees : Type 0 where
+    answer : o .answer ≡ asked .answer
+    output : writtenOf (judgedOf d c) z ≡ asked .output
+    place : o .place ≡ c .place
+    kept : there (o .answer .refusal) ≡ true → s ≡ asked .server
+    put : there (o .answer .refusal) ≡ false → putRecord s (o .place) (o .after) ≡ asked .server
 
-  -- neither refuses
-  neither : there first ≡ false → (there (d .refusal) ≡ false) × (there (v .refusal) ≡ false)
-  neither h = ⊎-elim (λ x. absurd (true-and-false x (rw x at h))) (λ x. (x, rw x at h)) (true-or-false (there (d .refusal)))
+  by-tests : (x y w : Bool) → there (d .refusal) ≡ x → there (c .refusal) ≡ y → there (encode (c .reply) z .refusal) ≡ w → Agrees
+  unfolding answerOf writtenOf exchanged
+  by-tests true y w p q r = record { answer = rw (p, p); output = rw (p, p); place = rw (p, p); kept = λ h. rw p; put = λ h. absurd (true-and-false (rw (p, p, p)) h) }
+  by-tests false true w p q r = record { answer = rw (p, q); output = rw (p, q); place = rw (p, q); kept = λ h. rw (p, q); put = λ h. absurd (true-and-false (rw (p, q, q)) h) }
+  by-tests false false true p q r = record { answer = rw (p, q, r); output = rw (p, q, r); place = rw (p, q, r); kept = λ h. rw (p, q, r); put = λ h. absurd (true-and-false (rw (p, q, r, r)) h) }
+  by-tests false false false p q r = record { answer = rw (p, q, r); output = rw (p, q, r); place = rw (p, q, r); kept = λ h. absurd (true-and-false h (rw (p, q, r))); put = λ h. rw (p, q, r) }
 
-  pub not-written : there first ≡ false → there (e .refusal) ≡ true → exchanged s z d v e ≡ nothingTaken s z (e .refusal)
-  unfolding exchanged
-  not-written h w = let n = neither h in rw (n .0, n .1, w)
-
-  pub wrote : there first ≡ false → there (e .refusal) ≡ false → exchanged s z d v e ≡ record { answer = record { refusal = 0; length = e .size }; server = v .server; output = e .buffer }
-  unfolding exchanged
-  wrote h w = let n = neither h in rw (n .0, n .1, w)
-
--- one record put in its place gives back a server that differs in no other
-again : (s : Server) (i : ℕ) (v : Record) → putRecord s i (recordAt (putRecord s i v) i) ≡ putRecord s i v
-again s i v =
-    ap (λ (l : List Record). record { id = s .id; records = l; counters = s .counters; log = s .log })
-    (sym (set-set (s .records) i v (getD (set (s .records) i v) i noRecord)) ∙ set-getD (set (s .records) i v) i noRecord)
-
-same : (s : Server) (i : ℕ) → putRecord s i (recordAt s i) ≡ s
-same s i = rw set-getD
-
-module _ (s : Server) (i : ℕ) (z : List ℕ) (d : Decoded) (v : Served) (e : Encoding) (put : putRecord s i (recordAt (v .server) i) ≡ v .server) where
-  by-tests : (a b c : Bool) → there (d .refusal) ≡ a → there (v .refusal) ≡ b → there (e .refusal) ≡ c → putRecord s i (recordAt (exchanged s z d v e .server) i) ≡ exchanged s z d v e .server
-  unfolding exchanged
-  by-tests true b c x y w = rw x (same s i)
-  by-tests false true c x y w = rw (x, y) (same s i)
-  by-tests false false true x y w = rw (x, y, w) (same s i)
-  by-tests false false false x y w = rw (x, y, w) put
-
-  exchanged-put : putRecord s i (recordAt (exchanged s z d v e .server) i) ≡ exchanged s z d v e .server
-  exchanged-put = by-tests (there (d .refusal)) (there (v .refusal)) (there (e .refusal)) refl refl refl
-
--- ---- what `take` tells, where the record that it tells is put, and that the lent server with the record there is the server after the message
+  agrees : Agrees
+  agrees = by-tests (there (d .refusal)) (there (c .refusal)) (there (encode (c .reply) z .refusal)) refl refl refl
 
 module _ (s : Server) (input z : List ℕ) where
-  pub take-told : taken s input z .answer ≡ take s input z .answer
-  unfolding taken
-  take-told = refl
+  abbrev c : Considered
+  c = considered s (decode input .message)
 
-  pub take-below : taken s input z .place < 64
-  unfolding taken
-  take-below = place-lt (decode input .message .t) (placeOf (decode input .message .t)) refl
+  abbrev answered : Taken
+  answered = answerOf (heardOf s (decode input)) z
 
-  pub take-left : putRecord s (taken s input z .place) (taken s input z .after) ≡ take s input z .server
-  unfolding take taken considered consideredAt
-  take-left =
-      let m = decode input .message in
-      let server : serve s m .server ≡ putRecord s (placeOf (m .t)) (considered s m .after) = ap (λ (x : Served). x .server) (sym (step-is-serve s m)) in
-      exchanged-put s (placeOf (m .t)) z (decode input) (serve s m) (encode (serve s m .reply) z)
-      (rw server (again s (placeOf (m .t)) (considered s m .after)))
+  asked-is : exchanged s z (decode input) (served s c) (encode (c .reply) z) ≡ take s input z
+  unfolding take
+  asked-is = ap (λ (v : Served). exchanged s z (decode input) v (encode (v .reply) z)) (step-is-serve s (decode input .message))
+
+  pub take-told : answered .answer ≡ take s input z .answer
+  unfolding heardOf
+  take-told = agrees s z (decode input) c .answer ∙ ap (λ (x : Exchange). x .answer) asked-is
+
+  pub take-written : writtenOf (heardOf s (decode input)) z ≡ take s input z .output
+  unfolding heardOf
+  take-written = agrees s z (decode input) c .output ∙ ap (λ (x : Exchange). x .output) asked-is
+
+  pub take-below : answered .place < 64
+  unfolding heardOf considered consideredAt
+  take-below = place-lt (decode input .message .t) (answered .place) (agrees s z (decode input) c .place)
+
+  pub take-refused : there (answered .answer .refusal) ≡ true → s ≡ take s input z .server
+  unfolding heardOf
+  take-refused h = agrees s z (decode input) c .kept h ∙ ap (λ (x : Exchange). x .server) asked-is
+
+  pub take-left : there (answered .answer .refusal) ≡ false → putRecord s (answered .place) (answered .after) ≡ take s input z .server
+  unfolding heardOf
+  take-left h = agrees s z (decode input) c .put h ∙ ap (λ (x : Exchange). x .server) asked-is
 
 -- ---- what `weigh_reply` tells, where the answer that it tells is put, and the lent drive after the reply, for each way to store
 

@@ -12,7 +12,7 @@ pub struct Answer {
     pub length: u32,
 }
 
-// What a message leaves at a server: the answer, and the one record to store, with its place.
+// What a message leaves at a server: the answer, and the one record to store where that refuses nothing, with its place.
 pub struct Taken {
     pub answer: Answer,
     pub place: usize,

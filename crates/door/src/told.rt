@@ -1,5 +1,6 @@
 // What an outcome tells the host, and what it leaves to be stored.
 ghost use mathlib.Core.Path.{_≡_};
+ghost use Rattle.rules.specs.Flags.{there};
 use crate::Answer;
 use crate::Counted;
 use crate::Taken;
@@ -19,6 +20,13 @@ pub fn taken_answer(o: Taken) -> Answer
     ensures { λ r. ⌜ r ≡ o .answer ⌝ }
 {
     o.answer
+}
+
+// Nothing is stored.
+pub fn taken_refused(o: Taken) -> bool
+    ensures { λ r. ⌜ r ≡ there (o .answer .refusal) ⌝ }
+{
+    o.answer.refusal != 0
 }
 
 pub fn taken_place(o: Taken) -> usize

@@ -14,6 +14,7 @@ use Rattle.door.proofs.readings.place_of.Reads as door·readings·place-of-cont
 use Rattle.door.proofs.readings.result.Reads as door·readings·result-contract
 use Rattle.door.proofs.told.planned_counted.Reads as door·told·planned-counted-contract
 use Rattle.door.proofs.told.taken_answer.Reads as door·told·taken-answer-contract
+use Rattle.door.proofs.told.taken_refused.Reads as door·told·taken-refused-contract
 use Rattle.door.proofs.told.taken_place.Reads as door·told·taken-place-contract
 use Rattle.door.proofs.told.taken_record.Reads as door·told·taken-record-contract
 
@@ -55,6 +56,9 @@ door·told·planned-counted κ a x y e e′ p q = p ∙ sym q
 
 pub door·told·taken-answer : Answers door·told·taken-answer-contract.Post
 door·told·taken-answer κ a x y e e′ p q = p ∙ sym q
+
+pub door·told·taken-refused : Answers door·told·taken-refused-contract.Post
+door·told·taken-refused κ a x y e e′ p q = p ∙ sym q
 
 pub door·told·taken-place : Answers door·told·taken-place-contract.Post
 door·told·taken-place κ a x y e e′ p q = p ∙ sym q

@@ -49,4 +49,4 @@ askedOf f v m =
 abbrev pub concludedOf : Form → ℕ → Record → Asked → Earlier → Message → Considered
 concludedOf f i v q e m =
     let c = changeBy (q .refusal) (f .id) (e .word) v m in
-    record { refusal = q .refusal; place = i; before = v; after = c .after; reply = c .reply }
+    record { refusal = q .refusal; place = i; after = c .after; reply = c .reply }

@@ -101,7 +101,7 @@ pub fn asked_earlier(q: Asked) -> Earlier
     q.earlier
 }
 
-// The record as it was and as it becomes, and the reply.
+// The record as it becomes, and the reply.
 pub fn concluded(f: Form, i: usize, v: Record, q: Asked, e: Earlier, m: Message) -> Considered
     ensures { λ r. ⌜ r ≡ concludedOf f i v q e m ⌝ }
 {
@@ -111,7 +111,6 @@ pub fn concluded(f: Form, i: usize, v: Record, q: Asked, e: Earlier, m: Message)
     Considered {
         refusal: q.refusal,
         place: i,
-        before: v,
         after: after,
         reply: reply,
     }

@@ -62,7 +62,7 @@ placeOf t = 0 if badNumber t else t
 unfoldable pub consideredAt : Server → (i n : ℕ) → Record → Message → Considered
 consideredAt s i n v m =
     let c = changeBy n (s .id) (maskOf (cameEarlier s (m .pieces)) (looked (eqb n 0 && fixes v m))) v m in
-    record { refusal = n; place = i; before = v; after = c .after; reply = c .reply }
+    record { refusal = n; place = i; after = c .after; reply = c .reply }
 
 unfoldable pub considered : Server → Message → Considered
 considered s m =

@@ -5,11 +5,10 @@ use wire::Message;
 pub mod refusals; // refusals.rt: the tests, and which comes first
 pub mod record; // record.rt: the record of T, and who came earlier
 
-// What a step comes to: the refusal or 0, the place of the one record that it stores, that record as it was lent and as it becomes, and the reply.
+// What a step comes to: the refusal or 0, the place of the one record that it stores, that record as it becomes, and the reply.
 pub struct Considered {
     pub refusal: u32,
     pub place: usize,
-    pub before: Record,
     pub after: Record,
     pub reply: Message,
 }

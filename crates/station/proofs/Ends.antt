@@ -20,7 +20,6 @@ use Rattle.server_step.proofs.StepIsServe.{place-lt}
 use Rattle.server_run.specs.Limited.{ranUpTo}
 use Rattle.server_run.proofs.Turning.{run-once, run-until}
 use Rattle.server_lent.specs.Listed.{ranPlanned}
-use Rattle.server_read.proofs.Sizes.{records-long}
 use Rattle.server_lent.proofs.RunsInPlace.{planned, planned-refusal, planned-many, planned-server}
 use Rattle.rules.specs.Flags.{there}
 use Rattle.drive.specs.declared.Drive.{Drive}
@@ -29,11 +28,10 @@ use Rattle.drive_step.specs.Weighing.{turned, kept}
 use Rattle.door.specs.declared.Counted.{Counted}
 use Rattle.door.specs.declared.Reading.{Reading}
 use Rattle.door.specs.declared.Taken.{Taken}
-use Rattle.door.specs.Exchange.{take, taken, heardOf, answerOf, writtenOf, takeReply, weighReply}
+use Rattle.door.specs.Exchange.{take, heardOf, answerOf, writtenOf, takeReply, weighReply}
 use Rattle.door.specs.Told.{counted}
 use Rattle.door.specs.Readings.{resultIn, result, resultAt, noReading}
-use Rattle.door.proofs.Lent.{answer-told, answer-written}
-use Rattle.door.proofs.Stored.{take-told, take-below, take-left, weigh-reply-told, weigh-reply-below, weigh-reply-refused, weigh-reply-turned, weigh-reply-kept}
+use Rattle.door.proofs.Stored.{take-told, take-written, take-below, take-refused, take-left, weigh-reply-told, weigh-reply-below, weigh-reply-refused, weigh-reply-turned, weigh-reply-kept}
 
 abbrev Sound : Server → Type 0
 Sound s = Is RServer.the-row s (LL.vals RServer.the-type LServer.the-laws s)
@@ -44,20 +42,20 @@ module _ (s : Server) (input z : List ℕ) where
   abbrev answered : Taken
   answered = answerOf (heardOf s (decode input)) z
 
-  answered-is : Sound s → answered ≡ taken s input z
-  answered-is was = answer-told s input z (heardOf s (decode input)) (records-long s was) refl
+  pub server-take-told : answered .answer ≡ take s input z .answer
+  server-take-told = take-told s input z
 
-  pub server-take-told : Sound s → answered .answer ≡ take s input z .answer
-  server-take-told was = ap (λ (t : Taken). t .answer) (answered-is was) ∙ take-told s input z
+  pub server-take-taken-place-below : answered .place < 64
+  server-take-taken-place-below = take-below s input z
 
-  pub server-take-taken-place-below : Sound s → answered .place < 64
-  server-take-taken-place-below was = rw (answered-is was) (take-below s input z)
+  pub server-take-left-taken-refused : there (answered .answer .refusal) ≡ true → s ≡ take s input z .server
+  server-take-left-taken-refused = take-refused s input z
 
-  pub server-take-left : Sound s → putRecord s (answered .place) (answered .after) ≡ take s input z .server
-  server-take-left was = ap (λ (t : Taken). putRecord s (t .place) (t .after)) (answered-is was) ∙ take-left s input z
+  pub server-take-left : there (answered .answer .refusal) ≡ false → putRecord s (answered .place) (answered .after) ≡ take s input z .server
+  server-take-left = take-left s input z
 
-  pub server-take-written : Sound s → writtenOf (heardOf s (decode input)) z ≡ take s input z .output
-  server-take-written was = answer-written s input z (heardOf s (decode input)) (records-long s was) refl
+  pub server-take-written : writtenOf (heardOf s (decode input)) z ≡ take s input z .output
+  server-take-written = take-written s input z
 
 -- ---- the runs
 

@@ -32,6 +32,10 @@ pub extern "C" fn drobulets_server_take(s: &mut Server, input: &[u8], output: &m
     let h = door::exchange::heard(&*s, d);
     let o = door::exchange::answered(h, output);
     let answer = door::told::taken_answer(o);
+    let refused = door::told::taken_refused(o);
+    if refused {
+        return answer;
+    }
     let i = door::told::taken_place(o);
     let v = door::told::taken_record(o);
     s.records[i] = v;
