@@ -72,7 +72,8 @@ impl Meter {
     }
 }
 
-/// Callgrind's files: the label stands at the end of the line "desc: Trigger", the count behind "totals:".
+/// Callgrind's files: the label stands at the end of the line "desc: Trigger", the count behind "summary:". Behind "totals:" stands the sum over all lines of
+/// the program, which on Arm is more than was run.
 fn read_counts(folder: &str) -> HashMap<String, f64> {
     let files = std::fs::read_dir(folder).expect("a folder of counts");
     let texts = files.filter_map(|file| std::fs::read_to_string(file.ok()?.path()).ok());
@@ -80,7 +81,7 @@ fn read_counts(folder: &str) -> HashMap<String, f64> {
     texts
         .filter_map(|text| {
             let label = after(&text, "desc: Trigger: Client Request: ")?;
-            Some((label, after(&text, "totals: ")?.parse().ok()?))
+            Some((label, after(&text, "summary: ")?.parse().ok()?))
         })
         .collect()
 }
