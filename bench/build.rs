@@ -4,7 +4,6 @@ fn main() {
     let made = concat!(env!("CARGO_MANIFEST_DIR"), "/../target/bench");
     println!("cargo:rerun-if-changed=build.rs");
     println!("cargo:rerun-if-changed={made}/libhost.a");
-    println!("cargo:rerun-if-changed={made}/../staticlib/libstation.a");
     println!("cargo:rustc-link-search=native={made}");
     println!("cargo:rustc-link-lib=static=host");
     println!("cargo:rustc-link-lib=tirpc");
