@@ -1,5 +1,5 @@
 /*
- * A host of six stations in memory: two shards, an engine that goes from one to the other, and trunks that drop.
+ * A host of six stations in memory: two shards, an engine that goes from one to the other, oil that does not fit its counter, and trunks that drop.
  * The disk is a buffer here and the trunks are a mask; the rest is what a host does. The duties are numbered as in docs/HOST.md:
  * S4 is the fourth of a server, D2 the second of a drive. bindings/rust/examples/host.rs is the same in Rust.
  *
@@ -10,7 +10,7 @@
 #include <stdlib.h>
 #include <string.h>
 
-enum { STATIONS = 6, ENGINES = 0, HOURS = 1 };
+enum { STATIONS = 6, ENGINES = 0, HOURS = 1, OIL = 2 };
 
 #define AT(s) (1u << (s))
 #define ALL (AT(STATIONS) - 1)
@@ -117,6 +117,15 @@ static uint64_t learn_wanted(uint32_t s)
     return unknown;
 }
 
+/* ---- a figure */
+
+/* What a yard is shown before a counter's value. A full counter is no total: an add did not fit, and none was taken since. Only a sum above the range
+ * leaves a value above 0, and only one below the range a value below 0. */
+static const char *bound(drobulets_reading counter)
+{
+    return !counter.kept ? "" : counter.value > 0 ? "at least " : "at most ";
+}
+
 /* ---- the day */
 
 static drobulets_pieces pieces_of(const drobulets_piece *list, uint32_t count)
@@ -131,21 +140,25 @@ static void show(uint32_t s)
 {
     const drobulets_server *server = &servers[s];
     uint32_t shard = s / DROBULETS_REPLICAS;
-    int32_t engines = drobulets_server_counter(server, ENGINES).value, hours = drobulets_server_counter(server, HOURS).value;
-    printf("shard %u, station %u: %d engines, %d hours; ran", (unsigned)shard, (unsigned)s, (int)engines, (int)hours);
+    drobulets_reading engines = drobulets_server_counter(server, ENGINES), hours = drobulets_server_counter(server, HOURS),
+                      oil = drobulets_server_counter(server, OIL);
+    printf("shard %u, station %u: %s%d engines, %s%d hours, %s%d ml of oil; ran", (unsigned)shard, (unsigned)s, bound(engines), (int)engines.value,
+        bound(hours), (int)hours.value, bound(oil), (int)oil.value);
     for (uint32_t place = 0; drobulets_server_log(server, place).some; place++)
         printf(" T%u", (unsigned)drobulets_server_log(server, place).number);
     printf("\n");
-    DEMAND(engines == (shard == 0 ? 3 : 5) && hours == (shard == 0 ? 0 : 1200));
+    DEMAND(engines.value == (shard == 0 ? 3 : 5) && hours.value == (shard == 0 ? 0 : 1200) && oil.value == (shard == 0 ? 2100000000 : 0));
+    DEMAND(!engines.kept && !hours.kept && !oil.kept);
 }
 
 int main(void)
 {
-    /* D1: T8 is this exchange and T1 this delivery, for the life of the cluster. */
+    /* D1: T8 is this exchange, T1 this delivery and T9 this reading of a tank, for the life of the cluster. */
     const drobulets_pieces exchange = pieces_of((const drobulets_piece[]){
-        {0, ENGINES, DROBULETS_ADD, -1}, {1, ENGINES, DROBULETS_ADD, 1}, {1, HOURS, DROBULETS_PUT, 1200}}, 3);
+        {0, ENGINES, DROBULETS_ADD, -1}, {0, OIL, DROBULETS_PUT, 2000000000}, {1, ENGINES, DROBULETS_ADD, 1}, {1, HOURS, DROBULETS_PUT, 1200}}, 4);
     const drobulets_pieces delivery = pieces_of((const drobulets_piece[]){
-        {0, ENGINES, DROBULETS_ADD, 4}, {1, ENGINES, DROBULETS_ADD, 4}}, 2);
+        {0, ENGINES, DROBULETS_ADD, 4}, {0, OIL, DROBULETS_ADD, 1000000000}, {1, ENGINES, DROBULETS_ADD, 4}}, 3);
+    const drobulets_pieces tank = pieces_of(&(const drobulets_piece){0, OIL, DROBULETS_PUT, 2100000000}, 1);
     drobulets_drive first, second, rescue;
 
     for (uint32_t s = 0; s < STATIONS; s++) {
@@ -194,6 +207,14 @@ int main(void)
     DEMAND(servers[5].log.count == 0 && learn_wanted(5) == 0);
     DEMAND(send(&first) == ALL); /* D8: the memory of both drives is free now */
     printf("station 5 is reached, and learns of T8 from another\n");
+
+    drobulets_reading oil = drobulets_server_counter(&servers[0], OIL);
+    DEMAND(oil.value == 2000000000 && oil.kept && drobulets_server_result(&servers[0], 1, 1).kept);
+    printf("T1: its oil did not fit: shard 0 shows %s%d ml until the tank is read\n", bound(oil), (int)oil.value);
+    DEMAND(drobulets_drive_start(&second, 1, 9, tank) == 0); /* D3 */
+    carry(&second);
+    DEMAND(second.phase == 3 && send(&second) == (AT(0) | AT(1) | AT(2)));
+    printf("T9: coordinator 1 puts what the tank holds, and the oil is counted again\n");
 
     for (uint32_t s = 0; s < STATIONS; s++) {
         drobulets_message fetch = {.code = DROBULETS_FETCH, .t = 1};

@@ -19,6 +19,13 @@
 #include <stddef.h>
 #include <stdint.h>
 
+/*
+ * The version, as a number, major * 10000 + minor * 100 + patch, and as a text. Before 1.0 a step of the minor number asks something of a host: CHANGELOG.md
+ * says what. A state that was stored under another minor number is not to be lent.
+ */
+#define DROBULETS_VERSION 200
+#define DROBULETS_VERSION_TEXT "0.2.0"
+
 #ifdef __cplusplus
 extern "C" {
 #define DROBULETS_ASSERT static_assert
@@ -118,7 +125,10 @@ typedef struct drobulets_maybe_set {
     drobulets_set set;
 } drobulets_maybe_set;
 
-/* A result: kept (not 0) where the sum would have left the range and the old value stayed. */
+/*
+ * A result: what was read or put, or the sum. `kept` is not 0 where the value is that of a full counter, and no total: of an add whose sum would have left
+ * the signed 32-bit range, of every add to a counter that was full, also one that would have fitted, and of a read of a full counter. Never of a put.
+ */
 typedef struct drobulets_value {
     int32_t value;
     uint32_t kept;
@@ -157,8 +167,13 @@ typedef struct drobulets_record {
     drobulets_values values;
 } drobulets_record;
 
+/*
+ * A counter is full where `full` is not 0, and its value is then no total. An add whose sum would leave the signed 32-bit range sets the mark, to 1, and leaves
+ * the value. While the mark is set, every add leaves value and mark as they are. A put stores its operand and clears the mark, to 0.
+ */
 typedef struct drobulets_counter {
     int32_t value;
+    uint32_t full;
 } drobulets_counter;
 
 typedef struct drobulets_counters {
@@ -217,7 +232,7 @@ typedef struct drobulets_wants {
     drobulets_set set;
 } drobulets_wants;
 
-/* A counter, or a result; none where `some` is 0. */
+/* A counter, or a result; none where `some` is 0. `kept` of a counter is 1 if it is full, else 0; of a result it is as held, not 0 as drobulets_value says. */
 typedef struct drobulets_reading {
     uint32_t some;
     int32_t value;
@@ -265,7 +280,7 @@ drobulets_counted drobulets_server_run_all(drobulets_server *server);
 /* The numbers to inquire for. Refuses 13. */
 drobulets_wants drobulets_server_wanted(const drobulets_server *server);
 
-/* The counter of a key; none for a key above 15. The readers judge no form: they show what is held. */
+/* The counter of a key, kept if it is full; none for a key above 15. The readers judge no form: they show what is held. */
 drobulets_reading drobulets_server_counter(const drobulets_server *server, uint32_t key);
 
 /* The number at a place of the log, the first at 0; none from the log's count on. */
@@ -341,10 +356,13 @@ DROBULETS_AT(drobulets_record, committed, 192);
 DROBULETS_AT(drobulets_record, ran, 232);
 DROBULETS_AT(drobulets_record, values, 236);
 
-DROBULETS_SIZE(drobulets_server, 19792);
+DROBULETS_SIZE(drobulets_counter, 8);
+DROBULETS_AT(drobulets_counter, full, 4);
+
+DROBULETS_SIZE(drobulets_server, 19856);
 DROBULETS_AT(drobulets_server, records, 8);
 DROBULETS_AT(drobulets_server, counters, 19464);
-DROBULETS_AT(drobulets_server, log, 19528);
+DROBULETS_AT(drobulets_server, log, 19592);
 
 DROBULETS_SIZE(drobulets_slot, 64);
 DROBULETS_AT(drobulets_slot, arrival, 8);

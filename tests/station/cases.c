@@ -54,7 +54,7 @@ static void case_d(void)
     CHECK(drobulets_server_log(server, 0).number == 1 && drobulets_server_log(server, 1).number == 8);
     CHECK(drobulets_server_log(server, 2).some == 0 && drobulets_server_log(server, 64).some == 0);
     drobulets_reading counter = drobulets_server_counter(server, 3);
-    CHECK(counter.some == 1 && counter.value == 5);
+    CHECK(counter.some == 1 && counter.value == 5 && counter.kept == 0);
     CHECK(drobulets_server_counter(server, 16).some == 0);
     drobulets_reading result = drobulets_server_result(server, 1, 0);
     CHECK(result.some == 1 && result.value == 2 && result.kept == 0);

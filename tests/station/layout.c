@@ -32,7 +32,7 @@ static void fresh_fields(void)
         CHECK(server->log.list[t] == 0);
     }
     for (uint32_t key = 0; key < DROBULETS_KEYS; key++)
-        CHECK(server->counters.list[key].value == 0);
+        CHECK(server->counters.list[key].value == 0 && server->counters.list[key].full == 0);
     CHECK(server->log.count == 0);
     free(server);
 }
@@ -69,8 +69,18 @@ static void server_fields(void)
     CHECK(last->ran == 1 && last->values.count == 6);
     for (uint32_t i = 2; i < 8; i++) {
         CHECK(last->values.list[i - 2].value == pieces.list[i].operand && last->values.list[i - 2].kept == 0);
-        CHECK(server->counters.list[2 * i + 1].value == pieces.list[i].operand);
+        CHECK(server->counters.list[2 * i + 1].value == pieces.list[i].operand && server->counters.list[2 * i + 1].full == 0);
     }
+    CHECK(server->counters.list[15].value == -7000007);
+
+    drobulets_message beyond = message_of(DROBULETS_COMMIT, 62, 0);
+    clash = (drobulets_piece){3, 15, DROBULETS_ADD, INT32_MIN};
+    beyond.pieces = pieces_of(&clash, 1);
+    asked(server, beyond);
+    CHECK(drobulets_server_run_all(server).many == 1 && server->log.count == 3 && server->log.list[2] == 62);
+    CHECK(server->records[62].values.list[0].value == -7000007 && server->records[62].values.list[0].kept == 1);
+    for (uint32_t key = 0; key < DROBULETS_KEYS; key++)
+        CHECK(server->counters.list[key].full == (key == 15));
     CHECK(server->counters.list[15].value == -7000007);
     free(server);
 }

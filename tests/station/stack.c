@@ -1,5 +1,5 @@
 /* How much stack the exported functions take: each runs on a painted stack of its own, and what is no longer paint was used; what a call of nothing uses is the thread's own.
- * A server has 19.8 KB and a drive 1.0: so a function that copied a server could not pass here. The header's DROBULETS_STACK must be enough. */
+ * A server has 19.9 KB and a drive 1.0: so a function that copied a server could not pass here. The header's DROBULETS_STACK must be enough. */
 #define _GNU_SOURCE
 #include "check.h"
 #include <pthread.h>

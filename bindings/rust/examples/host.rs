@@ -1,13 +1,15 @@
-//! A host of six stations in memory: two shards, an engine that goes from one to the other, and trunks that drop.
+//! A host of six stations in memory: two shards, an engine that goes from one to the other, oil that does not fit its counter, and trunks
+//! that drop.
 //!
 //! The disk is a few buffers here and the trunks are a list; the rest is what a host does. The duties are numbered as in docs/HOST.md:
 //! S4 is the fourth of a server, D2 the second of a drive. examples/host.c is the same in C.
 
-use drobulets::{servers_of, Drive, Message, Phase, Piece, Refusal, Server};
+use drobulets::{servers_of, Drive, Message, Phase, Piece, Refusal, Server, Value};
 use std::collections::BTreeMap;
 
 const ENGINES: u32 = 0;
 const HOURS: u32 = 1;
+const OIL: u32 = 2;
 const ALL: [u32; 6] = [0, 1, 2, 3, 4, 5];
 
 #[derive(Default)]
@@ -103,12 +105,26 @@ fn dropped(refusal: Refusal) -> Result<(), Refusal> {
     }
 }
 
+// ---- a figure
+
+/// What a yard is shown of a counter. A full counter is no total: an add did not fit, and none was taken since. Only a sum above the range
+/// leaves a value above 0, and only one below the range a value below 0.
+fn figure(counter: Value) -> String {
+    match counter {
+        Value { value, kept: false } => value.to_string(),
+        Value { value, .. } if value > 0 => format!("at least {value}"),
+        Value { value, .. } => format!("at most {value}"),
+    }
+}
+
 // ---- the day
 
 fn main() -> Result<(), Refusal> {
-    // D1: T8 is this exchange and T1 this delivery, for the life of the cluster.
-    let exchange = [Piece::add(0, ENGINES, -1), Piece::add(1, ENGINES, 1), Piece::put(1, HOURS, 1200)];
-    let delivery = [Piece::add(0, ENGINES, 4), Piece::add(1, ENGINES, 4)];
+    // D1: T8 is this exchange, T1 this delivery and T9 this reading of a tank, for the life of the cluster.
+    let measured = Piece::put(0, OIL, 2_000_000_000);
+    let exchange = [Piece::add(0, ENGINES, -1), measured, Piece::add(1, ENGINES, 1), Piece::put(1, HOURS, 1200)];
+    let delivery = [Piece::add(0, ENGINES, 4), Piece::add(0, OIL, 1_000_000_000), Piece::add(1, ENGINES, 4)];
+    let tank = [Piece::put(0, OIL, 2_100_000_000)];
 
     let mut host = Host::default();
     for s in ALL {
@@ -164,6 +180,15 @@ fn main() -> Result<(), Refusal> {
     assert_eq!(host.send(&mut first)?, ALL); // D8: both drives are done
     println!("station 5 is reached, and learns of T8 from another");
 
+    let oil = Value { value: 2_000_000_000, kept: true };
+    assert_eq!((host.servers[0].counter(OIL), host.servers[0].result(1, 1)), (Some(oil), Some(oil)));
+    println!("T1: its oil did not fit: shard 0 shows {} ml until the tank is read", figure(oil));
+    let mut third = Drive::start(1, 9, &tank)?; // D3
+    host.carry(&mut third)?;
+    assert_eq!(third.phase(), Phase::Commit);
+    assert_eq!(host.send(&mut third)?, [0, 1, 2]);
+    println!("T9: coordinator 1 puts what the tank holds, and the oil is counted again");
+
     for s in ALL {
         let fetched = host.ask(s, &Message::Fetch { t: 1 }.encode()?)?.expect("an answer"); // S8
         assert!(matches!(Message::decode(&fetched)?, Message::Results { .. }));
@@ -174,13 +199,13 @@ fn main() -> Result<(), Refusal> {
 
 /// Prints a server's counters and log; they must be what every server of its shard has.
 fn show(server: &Server) {
-    let (engines, hours) = (server.counters()[ENGINES as usize], server.counters()[HOURS as usize]);
+    let [engines, hours, oil] = [ENGINES, HOURS, OIL].map(|key| figure(server.counters()[key as usize]));
     let ran: Vec<String> = server.log().iter().map(|t| format!("T{t}")).collect();
     println!(
-        "shard {}, station {}: {engines} engines, {hours} hours; ran {}",
+        "shard {}, station {}: {engines} engines, {hours} hours, {oil} ml of oil; ran {}",
         server.shard(),
         server.id(),
         ran.join(" ")
     );
-    assert_eq!((engines, hours), if server.shard() == 0 { (3, 0) } else { (5, 1200) });
+    assert_eq!([engines, hours, oil], if server.shard() == 0 { ["3", "0", "2100000000"] } else { ["5", "1200", "0"] });
 }

@@ -15,7 +15,7 @@
 //! An exchange over two shards: spare part 3 goes from shard 0 to shard 1, at all six servers.
 //!
 //! ```
-//! use drobulets::{Drive, Message, Phase, Piece, Refusal, Server};
+//! use drobulets::{Drive, Message, Phase, Piece, Refusal, Server, Value};
 //!
 //! fn main() -> Result<(), Refusal> {
 //!     let mut servers = (0..6).map(Server::fresh).collect::<Result<Vec<Server>, Refusal>>()?;
@@ -36,8 +36,10 @@
 //!         assert_eq!(Message::decode(&server.take(&commit.bytes)?)?, Message::CommitOk { t: 8, server: server.id() });
 //!         server.run_all()?;
 //!     }
-//!     let spares: Vec<Option<i32>> = servers.iter().map(|server| server.counter(3)).collect();
-//!     assert_eq!(spares, [Some(-1), Some(-1), Some(-1), Some(1), Some(1), Some(1)]);
+//!     for server in &servers {
+//!         let value = if server.shard() == 0 { -1 } else { 1 };
+//!         assert_eq!(server.counter(3), Some(Value { value, kept: false })); // a kept figure would be no total
+//!     }
 //!     Ok(())
 //! }
 //! ```
@@ -79,3 +81,6 @@ pub use message::{Message, Value, Vote};
 pub use refusal::Refusal;
 #[cfg(feature = "archive")]
 pub use server::Server;
+
+/// The version of this crate, which is the header's: `DROBULETS_VERSION_TEXT`.
+pub const VERSION: &str = env!("CARGO_PKG_VERSION");

@@ -60,12 +60,16 @@ pub struct Vote {
     pub set: Set,
 }
 
-/// The result of a piece.
+/// The result of a piece, or a counter.
+///
+/// A counter is full from an add whose sum would leave the signed 32-bit range until the next put. Such an add leaves the value, and so
+/// does every add while the counter is full. A kept value is that of a full counter: show it as no total.
 #[derive(Clone, Copy, Debug, Default, PartialEq, Eq, Hash)]
 pub struct Value {
-    /// What was read or put, or the sum.
+    /// What was read or put, or the sum; where it is kept, the counter's value as it was. Of a counter, what it stands at.
     pub value: i32,
-    /// Whether the sum would have left the range, so that the old value stayed and is given here.
+    /// Of a result, whether an add was left out, since it did not fit or the counter was full before it, or a full counter was read;
+    /// never of a put. Of a counter, whether it is full.
     pub kept: bool,
 }
 

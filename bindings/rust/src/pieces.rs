@@ -7,22 +7,23 @@ use std::fmt;
 impl Piece {
     /// The kind that reads a counter.
     pub const READ: u32 = 0;
-    /// The kind that puts a value.
+    /// The kind that puts a value, and clears the counter's full mark.
     pub const PUT: u32 = 1;
-    /// The kind that adds to a counter; a sum out of range leaves it as it is.
+    /// The kind that adds to a counter. A sum out of range leaves the value and makes the counter full; a full one takes no add.
     pub const ADD: u32 = 2;
 
-    /// Reads a counter.
+    /// Reads a counter. The result is [kept](crate::layout::Value::kept) if the counter is full.
     pub const fn read(shard: u32, key: u32) -> Piece {
         Piece { shard, key, kind: Piece::READ, operand: 0 }
     }
 
-    /// Puts a value into a counter.
+    /// Puts a value into a counter, which is then not full.
     pub const fn put(shard: u32, key: u32, operand: i32) -> Piece {
         Piece { shard, key, kind: Piece::PUT, operand }
     }
 
-    /// Adds to a counter.
+    /// Adds to a counter. If the sum does not fit, or the counter is full, the value stays and is the result,
+    /// [kept](crate::layout::Value::kept).
     pub const fn add(shard: u32, key: u32, operand: i32) -> Piece {
         Piece { shard, key, kind: Piece::ADD, operand }
     }

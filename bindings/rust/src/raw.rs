@@ -75,7 +75,7 @@ pub fn server_wanted(server: &Server) -> Wants {
     unsafe { drobulets_server_wanted(server) }
 }
 
-/// The counter of a key. It judges no form; nor do the next two.
+/// The counter of a key, kept if it is full. It judges no form; nor do the next two.
 #[inline]
 pub fn server_counter(server: &Server, key: u32) -> Reading {
     // SAFETY: the server is lent for the call and only read, and the function is total.

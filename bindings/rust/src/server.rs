@@ -10,7 +10,7 @@ use std::fmt;
 /// A host persists it ([`to_bytes`](Server::to_bytes)) after a call that changed it and before the answer leaves the station.
 #[derive(Clone, PartialEq, Eq)]
 pub struct Server {
-    // Boxed, since 19,792 bytes are much to move.
+    // Boxed, since 19,856 bytes are much to move.
     state: Box<layout::Server>,
 }
 
@@ -73,14 +73,14 @@ impl Server {
         shard_of(self.id())
     }
 
-    /// The counter of a key; none for a key above 15.
-    pub fn counter(&self, key: u32) -> Option<i32> {
-        reading(raw::server_counter(&self.state, key)).map(|read| read.value)
+    /// The counter of a key, kept if it is full; none for a key above 15.
+    pub fn counter(&self, key: u32) -> Option<Value> {
+        reading(raw::server_counter(&self.state, key))
     }
 
-    /// All its counters, by key.
-    pub fn counters(&self) -> [i32; KEYS as usize] {
-        self.state.counters.list.map(|counter| counter.value)
+    /// All its counters, by key, kept where they are full.
+    pub fn counters(&self) -> [Value; KEYS as usize] {
+        self.state.counters.list.map(|counter| Value { value: counter.value, kept: counter.full != 0 })
     }
 
     /// The numbers that it ran, in order.

@@ -36,14 +36,16 @@ fn commit(drive: &Drive, servers: &mut [Server], reached: &[u32]) {
     }
 }
 
-/// The three servers of each shard have the same log and counters. Gives counter 3 of both shards.
+/// The three servers of each shard have the same log and counters, marks included. Gives counter 3 of both shards, which is not full.
 fn spares(servers: &[Server]) -> [i32; 2] {
     [0, 1].map(|shard| {
         let [a, b, c] = [0, 1, 2].map(|replica| &servers[servers_of(shard).start as usize + replica]);
         assert_eq!((a.counters(), a.log()), (b.counters(), b.log()));
         assert_eq!((a.counters(), a.log()), (c.counters(), c.log()));
         assert_eq!(a.shard(), shard);
-        a.counter(3).unwrap()
+        let Value { value, kept } = a.counter(3).unwrap();
+        assert!(!kept);
+        value
     })
 }
 
@@ -64,7 +66,7 @@ fn an_exchange_decides_at_once_and_runs_at_six_servers() {
     assert_eq!(spares(&servers), [-5, 5]);
     assert_eq!(servers[4].results(8), Some(vec![Value { value: 5, kept: false }]));
     assert_eq!((servers[4].result(8, 0), servers[4].result(8, 1)), (Some(Value { value: 5, kept: false }), None));
-    assert_eq!((servers[4].counter(15), servers[4].counter(16)), (Some(0), None));
+    assert_eq!((servers[4].counter(15), servers[4].counter(16)), (Some(Value { value: 0, kept: false }), None));
     let fetched = servers[1].take_message(&Message::Fetch { t: 8 }).unwrap();
     assert_eq!(fetched, Message::Results { t: 8, server: 1, values: vec![Value { value: -5, kept: false }] });
 }
@@ -157,11 +159,12 @@ fn bytes_stand_where_the_header_says() {
     commit(&drive, &mut servers, &ALL);
     let (server, drive) = (servers[5].to_bytes(), drive.to_bytes());
     let number = |bytes: &[u8], at: usize| u32::from_le_bytes([bytes[at], bytes[at + 1], bytes[at + 2], bytes[at + 3]]);
-    assert_eq!((server.len(), drive.len()), (19_792, 968));
+    assert_eq!((server.len(), drive.len()), (19_856, 968));
     assert_eq!((server.len(), drive.len()), (Server::BYTES, Drive::BYTES));
     assert_eq!((number(&server, 0), number(&server, 4)), (5, 0));
     assert_eq!(number(&server, 8 + 8 * 304 + 128), 2);
-    assert_eq!((number(&server, 19_464 + 3 * 4), number(&server, 19_528), number(&server, 19_528 + 256)), (5, 8, 1));
+    assert_eq!((number(&server, 19_464 + 3 * 8), number(&server, 19_464 + 3 * 8 + 4)), (5, 0));
+    assert_eq!((number(&server, 19_592), number(&server, 19_592 + 256)), (8, 1));
     assert_eq!((number(&drive, 0), number(&drive, 12), number(&drive, 920)), (8, 3, 1));
 }
 
@@ -174,7 +177,7 @@ fn damaged_bytes_are_refused() {
     assert_eq!(Drive::from_bytes(&[&drive[..], &[0]].concat()), Err(Refusal::BytesLeft));
     let damaged = |bytes: &[u8], at: usize| [&bytes[..at], &[0xFF], &bytes[at + 1..]].concat();
     assert_eq!(Server::from_bytes(&damaged(&server, 0)), Err(Refusal::BadState));
-    assert_eq!(Server::from_bytes(&damaged(&server, 19_784)), Err(Refusal::BadState));
+    assert_eq!(Server::from_bytes(&damaged(&server, 19_592 + 256)), Err(Refusal::BadState));
     assert_eq!(Drive::from_bytes(&damaged(&drive, 12)), Err(Refusal::BadState));
     assert_eq!(Drive::from_bytes(&[0; Drive::BYTES]), Err(Refusal::BadState));
     assert_eq!(Server::from_bytes(&damaged(&server, 5)), Ok(Server::fresh(3).unwrap()), "between the fields");
@@ -183,7 +186,7 @@ fn damaged_bytes_are_refused() {
 #[test]
 fn every_number_of_a_state_is_stored() {
     let (mut server, mut drive) = (*Server::fresh(3).unwrap().state(), *Drive::start(0, 8, &MOVE).unwrap().state());
-    assert_eq!(server.many(), 1 + 64 * (33 + 1 + 2 + 6 + 5 + 1 + 17) + 16 + 65);
+    assert_eq!(server.many(), 1 + 64 * (33 + 1 + 2 + 6 + 5 + 1 + 17) + 2 * 16 + 65);
     assert_eq!(drive.many(), 4 + 33 + 12 * (1 + 2 + 6) + 5 + 1);
 }
 

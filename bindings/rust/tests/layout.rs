@@ -39,7 +39,7 @@ fn shapes() -> Vec<Shape> {
         Values drobulets_values { list, count }
         Message drobulets_message { code, t, server, ballot, promise, pieces, set, word, arrival, accepted, values }
         Record drobulets_record { pieces, promise, arrival, accepted, committed, ran, values }
-        Counter drobulets_counter { value }
+        Counter drobulets_counter { value, full }
         Counters drobulets_counters { list }
         Log drobulets_log { list, count }
         Server drobulets_server { id, records, counters, log }

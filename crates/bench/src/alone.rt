@@ -7,6 +7,7 @@ use crate::feed::same_set;
 use crate::feed::words;
 use crate::host;
 use counters::Counter;
+use counters::Outcome;
 use drive::Drive;
 use messages::asks::inquire;
 use messages::replies::pre_accept_ok;
@@ -26,10 +27,24 @@ pub fn case_g() -> bool {
         & next_is(2, 65530, 9, 0)
 }
 
-// An add of n to a counter at `old` leaves it at `left`, gives that, and is marked kept or not.
-fn adds(n: i32, old: i32, left: i32, kept: u32) -> bool {
-    let r = counters::effect(2, n, Counter { value: old });
-    (r.counter.value == left) & (r.result.value == left) & (r.result.kept == kept)
+// A piece leaves its counter at v, full or not, and gives v, kept if it is full.
+fn leaves(r: Outcome, v: i32, full: u32) -> bool {
+    let left = (r.counter.value == v) & (r.counter.full == full);
+    left & (r.result.value == v) & (r.result.kept == full)
+}
+
+// An add of n to a counter at `old` that is not full leaves it at v, and a read after it shows the same.
+fn adds(n: i32, old: i32, v: i32, full: u32) -> bool {
+    let added = counters::effect(
+        2,
+        n,
+        Counter {
+            value: old,
+            full: 0,
+        },
+    );
+    let read = counters::effect(0, 0, added.counter);
+    leaves(added, v, full) & leaves(read, v, full)
 }
 
 pub fn case_h() -> bool {

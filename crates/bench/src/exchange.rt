@@ -14,7 +14,7 @@ use wire::Message;
 pub fn server0() -> Server {
     let mut other = fresh_record();
     other.promise = 8;
-    let nine = Counter { value: 9 };
+    let nine = Counter { value: 9, full: 1 };
     let counters = Counters { list: [nine; 16] };
     let log = Log {
         list: [7u32; 64],

@@ -1,4 +1,4 @@
--- Document 01, "Bench cases": the cases A to L, computed with the definitions that the contracts cite, under one theorem. A line of a case is one thing fed and what comes out.
+-- Document 01, "Bench cases", with the reads of request 1 in H: the cases A to L, computed with the definitions that the contracts cite, under one theorem. A line of a case is one thing fed and what comes out.
 use mathlib.Core.Path.{_≡_, refl}
 use mathlib.Core.List.{[], _∷_, _++_}
 use lib.IntN.{pos, negsuc}
@@ -9,10 +9,10 @@ use Rattle.rules.specs.Sets.{noSet}
 use Rattle.rules.specs.Maybe.{someWord, noVote, someVote}
 use Rattle.wire.specs.Messages.{preAccept, accept, commit, prepare, inquire, preAcceptOK, acceptOK, prepareOK, behind}
 use Rattle.wire.specs.Bytes.{bytes, decode}
-use Rattle.counters.specs.Effects.{counterAt, gives}
+use Rattle.counters.specs.Effects.{counterAt}
 use Rattle.server.specs.Run.{run}
 use Rattle.server.specs.Host.{wanted}
-use Rattle.cases.specs.Inputs.{piece, one, only, after, answer, refuses, put5, add2, inA, inB, inC, inD, inE, inF, adds, heardAll, inL}
+use Rattle.cases.specs.Inputs.{piece, one, only, after, answer, refuses, put5, add2, inA, inB, inC, inD, inE, inF, adds, readAfter, leaving, heardAll, inL}
 use Rattle.cases.specs.Computes.{computes}
 
 -- a first arrival finds nobody; a second number finds the first; the first again has its word still
@@ -65,12 +65,14 @@ G =
     × (nextBallot 2 65529 ≡ record { refusal = 0; ballot = 65530 })
     × (nextBallot 2 65530 ≡ record { refusal = 9; ballot = 0 })
 
--- adds at both ends of the range
+-- adds at both ends of the range, and a read after each one that is kept
 abbrev pub H : Type 0
 H =
-    (adds (pos 1) (pos 2147483646) ≡ gives (pos 2147483647) 0)
-    × (adds (pos 1) (pos 2147483647) ≡ gives (pos 2147483647) 1)
-    × (adds (negsuc 0) (negsuc 2147483647) ≡ gives (negsuc 2147483647) 1)
+    (adds (pos 1) (pos 2147483646) ≡ leaving (pos 2147483647) 0 0)
+    × (adds (pos 1) (pos 2147483647) ≡ leaving (pos 2147483647) 1 1)
+    × (readAfter (adds (pos 1) (pos 2147483647)) ≡ leaving (pos 2147483647) 1 1)
+    × (adds (negsuc 0) (negsuc 2147483647) ≡ leaving (negsuc 2147483647) 1 1)
+    × (readAfter (adds (negsuc 0) (negsuc 2147483647)) ≡ leaving (negsuc 2147483647) 1 1)
 
 -- two reads of one key: the second word is 0
 abbrev pub I : Type 0
@@ -102,4 +104,4 @@ L =
 pub bench : A × B × C × D × E × F × G × H × I × J × K × L
 unfolding computes after heardAll
 bench =
-    ((refl, refl, refl), (refl, refl), (refl, refl, refl), (refl, refl, refl, refl), (refl, refl, refl), (refl, refl, refl), (refl, refl, refl, refl), (refl, refl, refl), refl, (refl, refl), (refl, refl, refl, refl, refl), (refl, refl, refl, refl))
+    ((refl, refl, refl), (refl, refl), (refl, refl, refl), (refl, refl, refl, refl), (refl, refl, refl), (refl, refl, refl), (refl, refl, refl, refl), (refl, refl, refl, refl, refl), refl, (refl, refl), (refl, refl, refl, refl, refl), (refl, refl, refl, refl))

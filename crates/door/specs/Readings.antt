@@ -9,7 +9,7 @@ use Rattle.rules.specs.Flags.{there}
 use Rattle.rules.specs.Cluster.{NUMBERS, KEYS, PIECES}
 use Rattle.rules.specs.Values.{noValue}
 use Rattle.counters.specs.declared.Counters.{Counters}
-use Rattle.counters.specs.Effects.{counterAt}
+use Rattle.counters.specs.Effects.{keptOf, counterAt}
 use Rattle.server.specs.declared.Log.{Log}
 use Rattle.server.specs.declared.Record.{Record}
 use Rattle.server.specs.declared.Server.{Server}
@@ -23,13 +23,13 @@ reading v kept = record { some = 1; value = v; kept = kept }
 abbrev pub noReading : Reading
 noReading = record { some = 0; value = pos 0; kept = 0 }
 
--- the counter of a key
+-- the counter of a key: its value, kept exactly if it is full
 unfoldable pub counter : Server → ℕ → Reading
-counter s key = reading (counterAt (s .counters) key .value) 0 if ltb key KEYS else noReading
+counter s key = reading (counterAt (s .counters) key .value) (keptOf (counterAt (s .counters) key)) if ltb key KEYS else noReading
 
 -- the same of the counters alone
 unfoldable pub counterIn : Counters → ℕ → Reading
-counterIn c key = reading (counterAt c key .value) 0 if ltb key KEYS else noReading
+counterIn c key = reading (counterAt c key .value) (keptOf (counterAt c key)) if ltb key KEYS else noReading
 
 -- the number at a place of the log
 unfoldable pub logEntry : Server → ℕ → LogEntry

@@ -5,23 +5,25 @@ ghost use Rattle.server_step.specs.OneStore.{placeOf};
 use crate::LogEntry;
 use crate::Reading;
 use counters::Counters;
+use counters::kept_of;
 use rules::cluster::KEYS;
 use rules::cluster::NUMBERS;
 use rules::cluster::PIECES;
 use server::Log;
 use server::Record;
 
-// The counter of a key.
+// The counter of a key, kept where it is full.
 pub fn counter(c: Counters, key: u32) -> Reading
     ensures { λ r. ⌜ r ≡ counterIn c key ⌝ }
 {
     if key < KEYS {
         let k = key as usize;
         let x = c.list[k];
+        let kept = kept_of(x);
         return Reading {
             some: 1,
             value: x.value,
-            kept: 0,
+            kept: kept,
         };
     }
     Reading {

@@ -176,6 +176,7 @@ module _ (w : World) (c : Cluster) (r : Reached w c) where
   same-shown : P.SameShown w c
   same-shown k s s′ q l l′ e e′ h = record {
     keys = λ x i. ap (λ (z : Counters). counterAt z x .value) (both .counters);
+    marks = λ x i. ap (λ (z : Counters). counterAt z x .full) (both .counters);
     counts = λ t n a b. ap (λ (v : Values). v .count) (results t a b);
     values = λ t n i a b j. ap (λ (v : Values). getD (v .list) n noValue .value) (results t a b);
     kept = λ t n i a b j. ap (λ (v : Values). getD (v .list) n noValue .kept) (results t a b);

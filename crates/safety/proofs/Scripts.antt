@@ -2,12 +2,11 @@
 use mathlib.Core.Path.{_≡_, refl, sym, ap, subst}
 use mathlib.Core.Bool.{Bool, true, false, cond, not, _&&_, _||_, true≢false}
 use mathlib.Core.Option.{Option, none, some, Option·some-injective, Option·none-ne-some}
-use mathlib.Core.List.{List, [], _∷_, map, List·Memᴰ, List·Memᴰ·head, List·Memᴰ·tail}
+use mathlib.Core.List.{List, [], _∷_, List·Memᴰ, List·Memᴰ·head, List·Memᴰ·tail}
 use Prim.Native.Nat.{ℕ, zero, suc, _-_, _<_}
 use native.Mathlib.Omega.{arith}
 use borrow.Author.Tests.{ltb-true, eq-eqb}
 use lib.Dec.{ltb, eqb}
-use lib.IntN.{ℤ}
 use lib.ListN.{length, getD, take}
 use Rattle.masks.proofs.Bools.{and-yes, and-yes-l, and-yes-r, or-yes-l, or-yes-r, then-yes, true-and-false, not-yes}
 use Rattle.rules.specs.declared.Value.{Value}
@@ -103,14 +102,14 @@ play w (e ∷ es) c = onward (after w c e) (play w es)
 -- a server shows its log, its counters and its results of a number
 pub record Shown : Type 0 where
   pub log : List ℕ
-  pub counters : List ℤ
+  pub counters : List Counter
   pub results : List Value
 
 -- the server s, and its results of t
 unfoldable pub shownAt : Cluster → (s t : ℕ) → Shown
 shownAt c s t = record {
   log = logOf c s;
-  counters = map (λ (x : Counter). x .value) (c .servers s .counters .list);
+  counters = c .servers s .counters .list;
   results = take (recordAt (c .servers s) t .values .count) (recordAt (c .servers s) t .values .list);
 }
 

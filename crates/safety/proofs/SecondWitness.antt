@@ -1,36 +1,43 @@
--- A second history that happens: two numbers on one key of shard 2, one of them on shard 3 too, where the first counters differ. One takes the fast path, and its drive is gone; a recovery at a floor of 20 is gone too; another, at a floor of 9, is behind, tries again, is told Done and commits. The other number moves on in phase 1. All servers run in one order, a sum that is too large is kept, and a Fetch is answered with Results.
+-- A second history that happens: two numbers on one key of shard 2, one of them on shard 3 too, where the first counters differ and are full. One takes the fast path, and its drive is gone; a recovery at a floor of 20 is gone too; another, at a floor of 9, is behind, tries again, is told Done and commits. The other number moves on in phase 1. All servers run in one order, a sum that is too large is kept and marks its counter, a read and an add that fits are kept where the counter is full, a put clears the mark, and a Fetch is answered with Results.
 -- Assumes nothing.
 use mathlib.Core.Path.{_≡_, refl}
 use mathlib.Core.Option.{Option, none, some}
 use mathlib.Core.List.{List, [], _∷_, _++_}
 use Prim.Native.Nat.{ℕ, _*_}
 use lib.Dec.{eqb}
-use lib.IntN.{pos}
+use lib.IntN.{pos, negsuc}
 use lib.ListN.{replicate, set}
 use Rattle.rules.specs.declared.Pieces.{Pieces}
 use Rattle.rules.specs.declared.Value.{Value}
 use Rattle.rules.specs.Choice.{_if_else_}
-use Rattle.rules.specs.Pieces.{noPiece, put, add}
+use Rattle.rules.specs.Flags.{flag}
+use Rattle.rules.specs.Pieces.{noPiece, read, put, add}
 use Rattle.rules.specs.Maybe.{someWord, noVote}
 use Rattle.rules.specs.Values.{noValue}
 use Rattle.wire.specs.declared.Message.{Message}
 use Rattle.wire.specs.Messages.{prepareOK, results}
 use Rattle.counters.specs.declared.Counters.{Counters}
+use Rattle.counters.specs.Effects.{holding, marked}
 use Rattle.drive.specs.declared.Drive.{Drive}
 use Rattle.safety.specs.Cluster.{World, Cluster, Taken, atFirst, Reached}
 use Rattle.safety.proofs.Scripts.{Event, takes, fetches, runs, sends, hears, movesOn, starts, recovers, triesAgain, vanishes, sentAs, play, Shown, shownAt, onEnd, scripts, ends-with}
 
--- number 9 adds 1 to key 5 of shard 2, and puts 7 on key 0 of shard 3
+-- number 9 adds 1 to key 5 of shard 2; at shard 3 it puts 7 on key 0, reads key 1 and takes 1 from key 2
 nine : Pieces
-nine = record { list = record { shard = 2; key = 5; kind = add; operand = pos 1 } ∷ record { shard = 3; key = 0; kind = put; operand = pos 7 } ∷ replicate 6 noPiece; count = 2 }
+nine = record {
+  list =
+      record { shard = 2; key = 5; kind = add; operand = pos 1 } ∷ record { shard = 3; key = 0; kind = put; operand = pos 7 } ∷ record { shard = 3; key = 1; kind = read; operand = pos 0 }
+      ∷ record { shard = 3; key = 2; kind = add; operand = negsuc 0 } ∷ replicate 4 noPiece;
+  count = 4;
+}
 
 -- number 12 adds 2 to key 5 of shard 2, and too much to key 6
 twelve : Pieces
 twelve = record { list = record { shard = 2; key = 5; kind = add; operand = pos 2 } ∷ record { shard = 2; key = 6; kind = add; operand = pos 2147483647 } ∷ replicate 6 noPiece; count = 2 }
 
--- shard k begins with 10 k at every key
+-- shard k begins with 10 k at every key, and at shard 3 every counter is full
 tens : ℕ → Counters
-tens k = record { list = replicate 16 (record { value = pos (10 * k) }) }
+tens k = record { list = replicate 16 (record { value = pos (10 * k); full = flag (eqb k 3) }) }
 
 world : World
 unfolding tens
@@ -97,13 +104,17 @@ endOf c = record {
 abbrev sums : List Value
 sums = record { value = pos 23; kept = 0 } ∷ record { value = pos 20; kept = 1 } ∷ []
 
--- servers of shard 2
+-- servers of shard 2: key 6 is full
 unfoldable pub second : Shown
-second = record { log = 9 ∷ 12 ∷ []; counters = set (replicate 16 (pos 20)) 5 (pos 23); results = sums }
+second = record { log = 9 ∷ 12 ∷ []; counters = set (set (replicate 16 (holding (pos 20))) 5 (holding (pos 23))) 6 (marked (holding (pos 20))); results = sums }
 
--- servers of shard 3: the 7 of 9
+-- servers of shard 3: the 7 of 9 at a counter that is no longer full, and the 30 of two others that are
 unfoldable pub third : Shown
-third = record { log = 9 ∷ []; counters = set (replicate 16 (pos 30)) 0 (pos 7); results = record { value = pos 7; kept = 0 } ∷ [] }
+third = record {
+  log = 9 ∷ [];
+  counters = set (replicate 16 (marked (holding (pos 30)))) 0 (holding (pos 7));
+  results = record { value = pos 7; kept = 0 } ∷ record { value = pos 30; kept = 1 } ∷ record { value = pos 30; kept = 1 } ∷ [];
+}
 
 -- servers of a shard show the same; the Fetch was answered with Results; the Prepare at ballot 21 was answered too, but no drive is where the two were that are gone; five ballots were taken
 unfoldable pub end : End

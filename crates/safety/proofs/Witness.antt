@@ -9,7 +9,7 @@ use lib.IntN.{pos}
 use lib.ListN.{replicate, set}
 use Rattle.rules.specs.declared.Pieces.{Pieces}
 use Rattle.rules.specs.Pieces.{noPiece, put}
-use Rattle.counters.specs.Effects.{noCounters}
+use Rattle.counters.specs.Effects.{holding, noCounters}
 use Rattle.server.specs.Held.{arrivedAt, committedAt}
 use Rattle.safety.specs.Cluster.{World, Cluster, Taken, atFirst, Reached}
 use Rattle.safety.proofs.Scripts.{Event, takes, inquires, runs, runsOut, sends, hears, movesOn, starts, recovers, vanishes, play, Shown, shownAt, onEnd, scripts, ends-with}
@@ -68,7 +68,7 @@ endOf c = record {
 
 -- 8 ran, and put 5 on the key x
 unfoldable pub with5 : ℕ → Shown
-with5 x = record { log = 8 ∷ []; counters = set (replicate 16 (pos 0)) x (pos 5); results = record { value = pos 5; kept = 0 } ∷ [] }
+with5 x = record { log = 8 ∷ []; counters = set (replicate 16 (holding (pos 0))) x (holding (pos 5)); results = record { value = pos 5; kept = 0 } ∷ [] }
 
 -- 8 ran at servers of both shards, and put 5 into a counter of each; the learner shows what server 0 shows; server 5 holds 8 as committed, and neither it nor the learner ever got its PreAccept; two ballots were taken
 unfoldable pub end : End

@@ -106,13 +106,14 @@ pub record OneList (w : World) (c : Cluster) : Type 0 where
       (p : ℕ) × (q : ℕ) × (p < q) × (q < 64) × (getD list p 64 ≡ t) × (getD list q 64 ≡ u)
   pub begins : (p : ℕ) → p < length (c .order) → getD list p 64 ≡ getD (c .order) p 64
 
--- Two servers of a shard that ran the same numbers, of those with a piece there, hold the same value at every key, and for each number that both ran equally many results, of the same values and with the same kept marks.
+-- Two servers of a shard that ran the same numbers, of those with a piece there, hold the same value and the same full mark at every key, and for each number that both ran equally many results, of the same values and with the same kept marks.
 pub record RanTheSame (w : World) (c : Cluster) (k s s′ : ℕ) : Type 0 where
   pub here : (t a : ℕ) → t < 64 → PieceOn w t a k → LoggedAt c s t → LoggedAt c s′ t
   pub there : (t a : ℕ) → t < 64 → PieceOn w t a k → LoggedAt c s′ t → LoggedAt c s t
 
 pub record ShowTheSame (c : Cluster) (s s′ : ℕ) : Type 0 where
   pub keys : (x : ℕ) → x < 16 → counterAt (c .servers s .counters) x .value ≡ counterAt (c .servers s′ .counters) x .value
+  pub marks : (x : ℕ) → x < 16 → counterAt (c .servers s .counters) x .full ≡ counterAt (c .servers s′ .counters) x .full
   pub counts : (t : ℕ) → t < 64 → LoggedAt c s t → LoggedAt c s′ t → resultsAt c s t .count ≡ resultsAt c s′ t .count
   pub values : (t n : ℕ) → t < 64 → LoggedAt c s t → LoggedAt c s′ t → n < resultsAt c s t .count → resultAt c s t n .value ≡ resultAt c s′ t n .value
   pub kept : (t n : ℕ) → t < 64 → LoggedAt c s t → LoggedAt c s′ t → n < resultsAt c s t .count → resultAt c s t n .kept ≡ resultAt c s′ t n .kept

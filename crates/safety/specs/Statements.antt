@@ -60,7 +60,7 @@ pub record SameRan (w : World) (c : Cluster) (k s s′ : ℕ) : Type 0 where
   pub here : (t : ℕ) → touches (w .pieces t) k ≡ true → List·Memᴰ t (logOf c s) → List·Memᴰ t (logOf c s′)
   pub there : (t : ℕ) → touches (w .pieces t) k ≡ true → List·Memᴰ t (logOf c s′) → List·Memᴰ t (logOf c s)
 
--- 4: two servers of a shard that ran the same numbers with pieces there show the same counters and the same results
+-- 4: two servers of a shard that ran the same numbers with pieces there show the same counters, their full marks too, and the same results
 pub record SameShown (w : World) (c : Cluster) (k s s′ : ℕ) : Type 0 where
   pub counters : c .servers s .counters ≡ c .servers s′ .counters
   pub results : (t : ℕ) → List·Memᴰ t (logOf c s) → List·Memᴰ t (logOf c s′) → recordAt (c .servers s) t .values ≡ recordAt (c .servers s′) t .values

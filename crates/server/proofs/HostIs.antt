@@ -99,9 +99,9 @@ module _ (s : Server) (id : ℕ) where
     unfolding freshServer
     fresh-log = ap (λ (x : Server). x .log .count) begun-is
 
-    pub fresh-counters : (k : ℕ) → k ≤ 15 → counterAt (begun .counters) k .value ≡ pos 0
+    pub fresh-counters : (k : ℕ) → k ≤ 15 → counterAt (begun .counters) k ≡ record { value = pos 0; full = 0 }
     unfolding freshServer
-    fresh-counters k h = ap (λ (x : Server). counterAt (x .counters) k .value) begun-is ∙ at-first k h
+    fresh-counters k h = ap (λ (x : Server). counterAt (x .counters) k) begun-is ∙ at-first k h
 
     pub fresh-records : (t : ℕ) → t ≤ 63 → Nothing (recordAt begun t)
     unfolding freshServer

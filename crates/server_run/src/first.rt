@@ -42,10 +42,10 @@ pub fn fresh_record() -> Record
     }
 }
 
-// All counters at 0.
+// All counters at 0, and none full.
 pub fn no_counters() -> Counters
     ensures { λ r. ⌜ r ≡ noCounters ⌝ }
 {
-    let zero = Counter { value: 0 };
+    let zero = Counter { value: 0, full: 0 };
     Counters { list: [zero; 16] }
 }

@@ -89,7 +89,7 @@ pub fn names(state: &State) -> Vec<String> {
 fn server() -> Vec<String> {
     let mut names = under("", &["id"]);
     names.extend((0..64).flat_map(|t| record(&format!("records[{t}]."))));
-    names.extend((0..16).map(|key| format!("counters.list[{key}].value")));
+    names.extend((0..16).flat_map(|key| under(&format!("counters.list[{key}]."), &["value", "full"])));
     names.extend((0..64).map(|place| format!("log.list[{place}]")));
     names.extend(under("log.", &["count"]));
     names

@@ -69,6 +69,14 @@ fn reading(said: layout::Reading) -> Answer {
     }
 }
 
+/// A counter's mark is shown as 0 or 1, whatever number it is in memory.
+fn counter(said: layout::Reading) -> Answer {
+    match said.kept {
+        0 | 1 => reading(said),
+        _ => Answer::Odd(format!("a mark that is neither 0 nor 1: {said:?}")),
+    }
+}
+
 fn entry(said: layout::LogEntry) -> Answer {
     match said.some {
         0 if said == layout::LogEntry::default() => Answer::Nothing,
@@ -91,7 +99,7 @@ fn at_server(server: &mut layout::Server, call: &Call, output: &mut Output) -> O
             let bare = layout::Wants { refusal: said.refusal, ..Default::default() };
             judged(said.refusal, said, bare, || Answer::Set(said.set))
         }
-        Call::Counter(key) => reading(raw::server_counter(server, *key)),
+        Call::Counter(key) => counter(raw::server_counter(server, *key)),
         Call::Log(place) => entry(raw::server_log(server, *place)),
         Call::Result(t, place) => reading(raw::server_result(server, *t, *place)),
         _ => return None,

@@ -4,7 +4,7 @@ use crate::answer::Answer;
 use crate::call::{Call, Lent};
 use crate::state::State;
 use crate::through::{came, Came, Output, Through};
-use engine::{image, layout, messages, Engine, Plain};
+use engine::{image, messages, Engine, Plain};
 use model::{ballots, codec, Drive, Refusal, Server};
 
 pub struct Modelled;
@@ -64,7 +64,7 @@ fn at_server(server: &mut Server, call: &Call, output: &mut Output) -> Option<An
         Call::Wanted => told(Plain.wanted(server), |set| Answer::Set(image::set_image(&set))),
         Call::Counter(key) => {
             let counter = server.counters.get(*key as usize);
-            counter.map_or(Answer::Nothing, |value| Answer::Value(layout::Value { value: *value, kept: 0 }))
+            counter.map_or(Answer::Nothing, |counter| Answer::Value(image::value_image(&counter.reading())))
         }
         Call::Log(place) => server.log.entries().get(*place as usize).map_or(Answer::Nothing, |t| Answer::Number(*t)),
         Call::Result(t, place) => {

@@ -2,14 +2,14 @@
 
 use crate::parts;
 use crate::words::{number, signed, Read, Words};
-use engine::layout::{Log, Pieces, Record, Server, Values};
+use engine::layout::{Counter, Log, Pieces, Record, Server, Values};
 use std::ops::RangeInclusive;
 
 pub fn say(server: &mut Server, words: &mut Words) -> Read<()> {
     if words.eat("counter") {
         let key = words.below(server.counters.list.len())?;
         words.expect("=")?;
-        server.counters.list[key].value = signed(words.take()?)?;
+        server.counters.list[key] = Counter { value: signed(words.take()?)?, full: words.eat("full").into() };
     } else if words.eat("log") {
         server.log = log(words)?;
     } else if let Some(text) = words.peek().strip_prefix('T') {
@@ -103,9 +103,13 @@ pub fn clauses(server: &Server) -> Vec<String> {
         said.push(format!("T{t} results {}", if record.ran == 0 { "none" } else { &ran }));
     }
     let counters = server.counters.list.iter().enumerate();
-    said.extend(counters.map(|(key, counter)| format!("counter {key} = {}", counter.value)));
+    said.extend(counters.map(|(key, counter)| format!("counter {key} = {}", show_counter(counter))));
     said.push(show_log(&server.log));
     said
+}
+
+fn show_counter(counter: &Counter) -> String {
+    format!("{}{}", counter.value, if counter.full == 0 { "" } else { " full" })
 }
 
 fn show_log(log: &Log) -> String {

@@ -29,7 +29,7 @@ fn drive_of(list: &str) -> layout::Drive {
 #[test]
 fn a_state_is_read_back_from_its_clauses() {
     let full = "server 3; T0..63 pieces (0,3,put,5) (1,0,add,-2); T8 promise 16; T8 arrived {1 9}; T9 accepted {1} {} {2..5} {63} at 8; \
-                T9 committed empty; T8 results 5, 7 kept; T9 results nothing; counter 15 = -1; log 63 0..7";
+                T9 committed empty; T8 results 5, 7 kept; T9 results nothing; counter 14 = 7 full; counter 15 = -1; log 63 0..7";
     assert_eq!(with(&State::None, &server::clauses(&server_of(full))), Ok(state(full)));
     let full =
         "drive T8 coordinator 3 ballot 11 phase 2 pieces (0,3,put,5); answer 0 word {1}; answer 1 nothing; seen 8; \
@@ -51,6 +51,10 @@ fn a_field_is_the_one_of_its_name() {
     assert_eq!((eight.ran, eight.values.list[7].kept, nine.values.count), (2, 3, 4));
     let server = server_of("server 0; raw counters.list[15].value = -7; raw log.list[63] = 8; raw log.count = 65");
     assert_eq!((server.counters.list[15].value, server.log.list[63], server.log.count), (-7, 8, 65));
+    let server = server_of("server 0; counter 3 = 5 full; raw counters.list[4].full = 7");
+    assert_eq!(server.counters.list[3], layout::Counter { value: 5, full: 1 });
+    assert_eq!(server.counters.list[4], layout::Counter { value: 0, full: 7 });
+    assert_eq!(server_of("server 0; counter 3 = 5 full; counter 3 = 6").counters.list[3].full, 0);
     let drive = drive_of("blank; raw phase = 1; raw pieces.count = 9; raw answers[11].counted = 2; raw chosen.set.w3 = 18446744073709551615; raw seen = 3");
     assert_eq!((drive.phase, drive.pieces.count, drive.answers[11].counted), (1, 9, 2));
     assert_eq!((drive.chosen.set.w3, drive.seen), (u64::MAX, 3));

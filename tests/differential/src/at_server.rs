@@ -2,15 +2,17 @@
 
 use crate::compare::{code, judge, Compared, Difference, Outcome, OLD};
 use crate::coverage::Coverage;
+use crate::effects::{self, Marks};
 use crate::{messages, states, values};
 use chance::Chance;
+use engine::ran::pieces_run;
 use engine::{text, Lent};
 use model::server::Record;
 use model::Server;
 
-/// Calls on a server from its beginning, and on a lent one.
+/// Calls on a server from its beginning, and on a lent one. The last of them is a run until 0.
 const LIFE: u32 = 40;
-const VISIT: u32 = 4;
+const VISIT: u32 = 5;
 
 #[derive(Debug)]
 enum Call {
@@ -47,11 +49,18 @@ fn compare_calls<A: Lent, B: Lent>(
     (mut ours, mut theirs): (A::Server, B::Server),
     calls: u32,
 ) -> Compared {
-    for _ in 0..calls {
-        let call = some_call(chance, &a.see_server(&ours));
-        let (our_outcome, their_outcome) = (make(a, &mut ours, &call)?, make(b, &mut theirs, &call)?);
+    for left in (0..calls).rev() {
+        let before = a.see_server(&ours);
+        let call = if left == 0 { Call::RunAll } else { some_call(chance, &before) };
+        let (our_outcome, _) = make(a, &mut ours, &call)?;
+        let (their_outcome, marks) = make(b, &mut theirs, &call)?;
+        let after = a.see_server(&ours);
+        let ran = pieces_run(&before, &after);
         note(seen, &call, &our_outcome);
-        let states = difference(&a.see_server(&ours), &b.see_server(&theirs));
+        ran.iter().for_each(|done| seen.note_effect(effects::effect(done)));
+        let states = difference(&after, &b.see_server(&theirs));
+        let found = || effects::marks(&b.server_image(&theirs));
+        let states = states.or_else(|| other_marks(&effects::marks_after(marks, &ran), &found()));
         judge(words(&call), &our_outcome, &their_outcome, states)?;
     }
     Ok(())
@@ -66,8 +75,8 @@ fn some_call(chance: &mut Chance, server: &Server) -> Call {
     }
 }
 
-/// Makes a call, which must change nothing if it is refused.
-fn make<E: Lent>(engine: &E, server: &mut E::Server, call: &Call) -> Result<Outcome, Difference> {
+/// Makes a call, which must change nothing if it is refused. Gives the marks that were lent with it.
+fn make<E: Lent>(engine: &E, server: &mut E::Server, call: &Call) -> Result<(Outcome, Marks), Difference> {
     let before = engine.server_image(server);
     let mut buffer = Vec::new();
     let answer = match call {
@@ -83,7 +92,7 @@ fn make<E: Lent>(engine: &E, server: &mut E::Server, call: &Call) -> Result<Outc
     if outcome.refused_in_vain(outcome.answer.is_ok() || engine.server_image(server) == before) {
         return Err(Difference(format!("{}: refused, and yet something changed", words(call))));
     }
-    Ok(outcome)
+    Ok((outcome, effects::marks(&before)))
 }
 
 fn note(seen: &mut Coverage, call: &Call, outcome: &Outcome) {
@@ -116,9 +125,16 @@ fn difference(ours: &Server, theirs: &Server) -> Option<String> {
         Some(t) => format!("T{t} with {} and with {}", record_words(ours.record(t)), record_words(theirs.record(t))),
         None => {
             let logs = format!("log {} and {}", text::numbers(ours.log.entries()), text::numbers(theirs.log.entries()));
-            format!("{logs}, counters {:?} and {:?}", ours.counters, theirs.counters)
+            let counters = |server: &Server| text::values(&server.counters.map(|counter| counter.reading()));
+            format!("{logs}, counters {} and {}", counters(ours), counters(theirs))
         }
     })
+}
+
+/// A mark that is set, and by another number than it must be.
+fn other_marks(wanted: &Marks, found: &Marks) -> Option<String> {
+    let key = (0..wanted.len()).find(|key| wanted[*key] != found[*key])?;
+    Some(format!("the mark of key {key} is {}, and must be {}", found[key], wanted[key]))
 }
 
 fn record_words(record: &Record) -> String {

@@ -1,5 +1,6 @@
 //! Which outcomes of which calls were met, and which must be.
 
+use crate::effects;
 use model::Refusal;
 use std::collections::BTreeMap;
 
@@ -45,7 +46,16 @@ fn answered(call: &str, answer: u64) -> String {
     format!("{call}: answered {answer}")
 }
 
+fn done(effect: &str) -> String {
+    format!("a piece does: {effect}")
+}
+
 impl Coverage {
+    /// Notes which way a piece took.
+    pub fn note_effect(&mut self, effect: &str) {
+        *self.met.entry(done(effect)).or_insert(0) += 1;
+    }
+
     pub fn note(&mut self, call: &str, outcome: Result<u64, Refusal>) {
         let what = match outcome {
             Ok(answer) => answered(call, answer),
@@ -60,6 +70,7 @@ impl Coverage {
             let refused = refusals.iter().map(|number| refused(call, *number));
             refused.chain(answers.iter().map(|answer| answered(call, *answer))).collect::<Vec<_>>()
         });
+        let must = must.chain(effects::ALL.iter().map(|effect| done(effect)));
         must.filter(|what| self.met.get(what).map_or(true, |many| *many < ENOUGH)).collect()
     }
 

@@ -6,6 +6,7 @@ mod at_drive;
 mod at_server;
 mod compare;
 mod coverage;
+mod effects;
 mod messages;
 mod states;
 mod values;
@@ -56,7 +57,7 @@ fn all_alike(tested: &impl Lent, from: u64, count: u64, seen: &mut Coverage) -> 
     true
 }
 
-/// The cases reach every refusal of every call, and every answer.
+/// The cases reach every refusal of every call, every answer, and every way that a piece can take.
 fn everything_met(seen: &Coverage) -> bool {
     let missing = seen.missing();
     println!("{} kinds of outcome met, {} missing", seen.kinds(), missing.len());

@@ -1,7 +1,7 @@
 //! States to lend: reached by steps of the model, then left so, dressed with rubbish where it is ignored, or damaged.
 
 use crate::messages::{for_drive, for_server};
-use crate::values::{ballot, damage, edge, fill, usual_pieces, FEW};
+use crate::values::{ballot, damage, edge, fill, near_an_end, usual_pieces, FEW};
 use chance::Chance;
 use engine::layout::{self, Numbers};
 use engine::{image, Engine, Plain, LONGEST};
@@ -27,6 +27,9 @@ fn dress(chance: &mut Chance) -> Dress {
 
 pub fn server(chance: &mut Chance) -> layout::Server {
     let mut lent = image::server_image(&walked_server(chance));
+    if chance.percent(60) {
+        lent.counters.list.iter_mut().for_each(|counter| *counter = any_counter(chance));
+    }
     match dress(chance) {
         Dress::Plain => {}
         Dress::Rubbish => rubbish_in_server(chance, &mut lent),
@@ -45,6 +48,16 @@ pub fn drive(chance: &mut Chance) -> layout::Drive {
         Dress::Filled => fill(chance, &mut lent),
     }
     lent
+}
+
+/// A counter at an end of the range or anywhere, full or not: any is in form. A mark that is set is any number but 0.
+fn any_counter(chance: &mut Chance) -> layout::Counter {
+    let full = match chance.below(4) {
+        0 => 1,
+        1 => edge(chance),
+        _ => 0,
+    };
+    layout::Counter { value: near_an_end(chance), full }
 }
 
 /// A server after some messages and runs.
@@ -120,6 +133,8 @@ fn damage_record(chance: &mut Chance, record: &mut layout::Record) {
 /// Rubbish behind the counts and the flags that are 0, and any number but 0 for those that aren't.
 fn rubbish_in_server(chance: &mut Chance, server: &mut layout::Server) {
     server.records.iter_mut().for_each(|record| rubbish_in_record(chance, record));
+    let full = server.counters.list.iter_mut().filter(|counter| counter.full != 0);
+    full.for_each(|counter| counter.full = edge(chance).max(1));
     let logged = server.log.count.min(64) as usize;
     server.log.list[logged..].iter_mut().for_each(|number| *number = edge(chance));
 }

@@ -46,9 +46,23 @@ pub fn word(chance: &mut Chance) -> u64 {
     }
 }
 
+/// A value a few steps from an end of the range, or now and then any.
+pub fn near_an_end(chance: &mut Chance) -> i32 {
+    let steps = chance.below(8) as i32;
+    match chance.below(10) {
+        0 => edge(chance) as i32,
+        1..=5 => i32::MAX - steps,
+        _ => i32::MIN + steps,
+    }
+}
+
+/// What the numbers put and add: to the ends of the range, over them and back.
+const OPERANDS: [i32; 6] = [i32::MAX - 2, 5, 5, -5, i32::MIN + 2, i32::MIN];
+
 /// The pieces that a transaction number has in most messages: always good ones.
 pub fn usual_pieces(t: u32) -> Pieces {
-    let piece = |shard: u32, key: u32, kind: u32| Piece { shard, key, kind, operand: if kind == 0 { 0 } else { 5 } };
+    let operand = |kind: u32| if kind == 0 { 0 } else { OPERANDS[t as usize % OPERANDS.len()] };
+    let piece = |shard: u32, key: u32, kind: u32| Piece { shard, key, kind, operand: operand(kind) };
     let both = [piece(0, 3, 1 + t % 2), piece(1, 0, t % 3)];
     match t % 4 {
         0 => Pieces::of(&both),

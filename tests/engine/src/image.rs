@@ -1,9 +1,9 @@
-//! Between the lent memory and the model's state. What the memory ignores, the model doesn't have, and it comes back as 0.
+//! Between the lent memory and the model's state. What the memory ignores, the model doesn't have, and it comes back as 0; a flag or mark that is set comes back as 1.
 
 use crate::layout;
 use model::drive::Answer;
 use model::server::{Log, Record};
-use model::{Drive, Piece, Pieces, Server, Set, Value, Values, Vote};
+use model::{Counter, Drive, Piece, Pieces, Server, Set, Value, Values, Vote};
 
 pub fn pieces(image: &layout::Pieces) -> Pieces {
     let piece = |p: layout::Piece| Piece { shard: p.shard, key: p.key, kind: p.kind, operand: p.operand };
@@ -99,17 +99,26 @@ fn record_image(record: &Record) -> layout::Record {
     }
 }
 
+/// The mark in memory is a number: 0 is none, any other is set.
+fn counter(image: layout::Counter) -> Counter {
+    Counter { value: image.value, full: image.full != 0 }
+}
+
+fn counter_image(counter: Counter) -> layout::Counter {
+    layout::Counter { value: counter.value, full: counter.full.into() }
+}
+
 pub fn server(image: &layout::Server) -> Server {
     let records = std::array::from_fn(|t| record(&image.records[t]));
     let log = Log { count: image.log.count, list: image.log.list };
-    Server { id: image.id, records, counters: image.counters.list.map(|counter| counter.value), log }
+    Server { id: image.id, records, counters: image.counters.list.map(counter), log }
 }
 
 pub fn server_image(server: &Server) -> layout::Server {
     let mut log = layout::Log { list: [0; 64], count: server.log.count };
     let logged = server.log.entries();
     log.list[..logged.len()].copy_from_slice(logged);
-    let counters = layout::Counters { list: server.counters.map(|value| layout::Counter { value }) };
+    let counters = layout::Counters { list: server.counters.map(counter_image) };
     let records = std::array::from_fn(|t| record_image(&server.records[t]));
     layout::Server { id: server.id, records, counters, log }
 }

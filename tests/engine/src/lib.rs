@@ -5,6 +5,7 @@ pub mod archive;
 pub mod image;
 pub mod messages;
 pub mod plain;
+pub mod ran;
 pub mod text;
 
 use model::{Pieces, Refusal, Set};

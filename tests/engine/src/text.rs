@@ -66,9 +66,13 @@ fn parse_piece(text: &str) -> Option<Piece> {
     })
 }
 
+/// A result, or a counter as it is read: `5` or `7 kept`.
+pub fn value(value: &Value) -> String {
+    format!("{}{}", value.value, if value.kept { " kept" } else { "" })
+}
+
 /// Results: `5, 7 kept`.
 pub fn values(values: &[Value]) -> String {
-    let value = |value: &Value| format!("{}{}", value.value, if value.kept { " kept" } else { "" });
     values.iter().map(value).collect::<Vec<_>>().join(", ")
 }
 

@@ -1,8 +1,8 @@
-//! Sixteen signed 32-bit counters of a shard, and what a piece does to one.
+//! Sixteen signed 32-bit counters of a shard, each with its full mark, and what a piece does to one.
 
 use crate::pieces::{Piece, Pieces, ADD, KEYS, MOST, PUT};
 
-/// What a piece gave, and whether its add was kept out.
+/// What a piece gave, and whether it is marked kept.
 #[derive(Clone, Copy, Debug, Default, PartialEq, Eq)]
 pub struct Value {
     pub value: i32,
@@ -46,23 +46,47 @@ impl PartialEq for Values {
 
 impl Eq for Values {}
 
-/// Counters of a shard, at first 0.
-pub type Counters = [i32; KEYS as usize];
+/// A counter, at first 0 and not full.
+#[derive(Clone, Copy, Debug, Default, PartialEq, Eq)]
+pub struct Counter {
+    pub value: i32,
+    /// Set by an add whose sum leaves the range, cleared by a put.
+    pub full: bool,
+}
 
-/// Does one piece. A read gives the value, a put the operand, an add the sum; a sum outside the range keeps the old value, gives it, and is marked.
-pub fn do_piece(counter: &mut i32, piece: &Piece) -> Value {
-    let wanted = match piece.kind {
-        PUT => i64::from(piece.operand),
-        ADD => i64::from(*counter) + i64::from(piece.operand),
-        _ => i64::from(*counter),
-    };
-    match i32::try_from(wanted) {
-        Ok(fits) => {
-            *counter = fits;
-            Value { value: fits, kept: false }
-        }
-        Err(_) => Value { value: *counter, kept: true },
+impl Counter {
+    /// What a read gives: the value, kept exactly if the counter is full.
+    pub fn reading(&self) -> Value {
+        Value { value: self.value, kept: self.full }
     }
+
+    fn put(&mut self, operand: i32) {
+        *self = Counter { value: operand, full: false };
+    }
+
+    /// A sum outside the range sets the mark and leaves the value. While the mark is set nothing is added, whether it fits or not.
+    fn add(&mut self, operand: i32) {
+        if self.full {
+            return;
+        }
+        match i32::try_from(i64::from(self.value) + i64::from(operand)) {
+            Ok(sum) => self.value = sum,
+            Err(_) => self.full = true,
+        }
+    }
+}
+
+/// Counters of a shard, by key.
+pub type Counters = [Counter; KEYS as usize];
+
+/// Does one piece. A put gives the operand and an add the sum; what a counter that is full then gives is marked kept.
+pub fn do_piece(counter: &mut Counter, piece: &Piece) -> Value {
+    match piece.kind {
+        PUT => counter.put(piece.operand),
+        ADD => counter.add(piece.operand),
+        _ => {}
+    }
+    counter.reading()
 }
 
 /// Does the pieces on a shard, in their order. One that is kept doesn't hold up the others.

@@ -26,7 +26,7 @@ pub mod server;
 pub mod sets;
 
 pub use ballots::Vote;
-pub use counters::{Value, Values};
+pub use counters::{Counter, Value, Values};
 pub use drive::Drive;
 pub use message::Message;
 pub use pieces::{Piece, Pieces};

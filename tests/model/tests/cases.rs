@@ -69,7 +69,7 @@ fn d_two_that_name_each_other_run_together_in_rising_number() {
     commit(&mut server, 1, t1_of_d(), [256, 0, 0, 0]);
     assert_eq!(run(&mut server), Ok(2));
     assert_eq!(server.log.entries(), [1, 8]);
-    assert_eq!(server.counters[3], 5);
+    assert_eq!(server.counters[3].reading(), Value { value: 5, kept: false });
     assert_eq!(run(&mut server), Ok(0));
 }
 
@@ -99,25 +99,64 @@ fn g_next_ballots() {
     assert_eq!(ballots::next(2, 65_530), Err(Refusal::NoNextBallot));
 }
 
-#[test]
-fn h_an_add_outside_the_range_is_kept() {
-    let value = |value, kept| Value { value, kept };
+/// Pieces of shard 0 one after the other, T0 first, and what the last piece of each gives at server 0.
+fn one_after_the_other(done: &[&[(u32, u32, u32, i32)]]) -> Vec<(i32, bool)> {
+    let mut server = fresh(0);
     let after = |t: u32| [if t == 0 { 0 } else { 1 << (t - 1) }, 0, 0, 0];
-    let mut high = fresh(0);
-    let start = [(0, 0, PUT, i32::MAX - 1)];
-    for (t, done) in [start, [(0, 0, ADD, 1)], [(0, 0, ADD, 1)]].iter().enumerate() {
-        commit(&mut high, t as u32, pieces(done), after(t as u32));
-        assert_eq!(run(&mut high), Ok(1));
-    }
-    assert_eq!(high.record(1).results.unwrap().entries(), [value(i32::MAX, false)]);
-    assert_eq!(high.record(2).results.unwrap().entries(), [value(i32::MAX, true)]);
-    assert_eq!(high.counters[0], i32::MAX);
-    let mut low = fresh(0);
-    commit(&mut low, 0, pieces(&[(0, 0, PUT, i32::MIN)]), after(0));
-    commit(&mut low, 1, pieces(&[(0, 0, ADD, -1), (0, 1, ADD, 7)]), after(1));
-    assert_eq!(model::run::run_all(&mut low), Ok(2));
-    assert_eq!(low.record(1).results.unwrap().entries(), [value(i32::MIN, true), value(7, false)]);
-    assert_eq!(low.counters[0], i32::MIN);
+    (0..)
+        .zip(done)
+        .map(|(t, list)| {
+            commit(&mut server, t, pieces(list), after(t));
+            assert_eq!(run(&mut server), Ok(1));
+            let results = server.record(t).results.unwrap();
+            let last = results.entries().last().unwrap();
+            (last.value, last.kept)
+        })
+        .collect()
+}
+
+#[test]
+fn h_an_add_outside_the_range_is_kept_and_the_read_after_it_says_so() {
+    let high = one_after_the_other(&[
+        &[(0, 0, PUT, 2_147_483_646)],
+        &[(0, 0, ADD, 1)],
+        &[(0, 0, READ, 0)],
+        &[(0, 0, ADD, 1)],
+        &[(0, 0, READ, 0)],
+    ]);
+    let top = 2_147_483_647;
+    assert_eq!(high, [(2_147_483_646, false), (top, false), (top, false), (top, true), (top, true)]);
+    let low = one_after_the_other(&[&[(0, 0, PUT, -2_147_483_648)], &[(0, 0, ADD, -1)], &[(0, 0, READ, 0)]]);
+    let bottom = -2_147_483_648;
+    assert_eq!(low, [(bottom, false), (bottom, true), (bottom, true)]);
+}
+
+#[test]
+fn h_the_other_pieces_still_run() {
+    let other = one_after_the_other(&[
+        &[(0, 0, PUT, i32::MIN)],
+        &[(0, 0, ADD, -1), (0, 1, ADD, 7)],
+        &[(0, 0, READ, 0), (0, 1, READ, 0)],
+        &[(0, 0, READ, 0)],
+    ]);
+    assert_eq!(other, [(i32::MIN, false), (7, false), (7, false), (i32::MIN, true)]);
+}
+
+#[test]
+fn h_what_is_full_stays_so_until_a_put() {
+    let filled = one_after_the_other(&[
+        &[(0, 0, ADD, i32::MAX)],
+        &[(0, 0, ADD, 1)],
+        &[(0, 0, ADD, -5)],
+        &[(0, 0, ADD, 0)],
+        &[(0, 0, READ, 0)],
+        &[(0, 0, PUT, i32::MAX)],
+        &[(0, 0, READ, 0)],
+        &[(0, 0, ADD, -5)],
+    ]);
+    let top = i32::MAX;
+    assert_eq!(filled[..5], [(top, false), (top, true), (top, true), (top, true), (top, true)]);
+    assert_eq!(filled[5..], [(top, false), (top, false), (top - 5, false)]);
 }
 
 #[test]

@@ -64,7 +64,7 @@ fn each_break_of_a_servers_form_is_seen() {
 
 #[test]
 fn what_is_odd_but_not_listed_keeps_the_form() {
-    let oddities: [(&str, fn(&mut Server)); 8] = [
+    let oddities: [(&str, fn(&mut Server)); 9] = [
         ("accepted above the promise", |s| s.record_mut(2).accepted.as_mut().unwrap().ballot = 65_535),
         ("promise without pieces", |s| s.record_mut(40).promise = 8),
         ("arrival 0 at an untouched shard", |s| {
@@ -72,7 +72,8 @@ fn what_is_odd_but_not_listed_keeps_the_form() {
             s.record_mut(40).arrival = Some(0);
         }),
         ("words that name unknown numbers", |s| s.record_mut(3).arrival = Some(1 << 50)),
-        ("counters of any value", |s| s.counters[7] = -1),
+        ("counters of any value", |s| s.counters[7].value = -1),
+        ("a counter that is full, at any value", |s| s.counters[7].full = true),
         ("results of any value", |s| s.record_mut(8).results.as_mut().unwrap().list[0].value = 99),
         ("what stands behind the log's count", |s| s.log.list[5] = 99),
         ("what stands behind a count of pieces", |s| s.record_mut(3).pieces.as_mut().unwrap().list[5].kind = 99),

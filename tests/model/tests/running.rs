@@ -5,7 +5,7 @@ mod common;
 use chance::Chance;
 use common::*;
 use model::run::{run, Waits};
-use model::Server;
+use model::{Counter, Server};
 
 const NUMBERS: u32 = 12;
 
@@ -87,5 +87,5 @@ fn a_number_without_pieces_here_is_logged_with_no_results() {
     assert_eq!(run(&mut server), Ok(1));
     assert_eq!(server.log.entries(), [5]);
     assert_eq!(server.record(5).results.unwrap().count, 0);
-    assert_eq!(server.counters, [0; 16]);
+    assert_eq!(server.counters, [Counter::default(); 16]);
 }

@@ -12,9 +12,9 @@ pub enum Check {
     Agreement,
     /// There is one order of all numbers in which every server ran its conflicting pairs.
     OneOrder,
-    /// Two servers of a shard that ran the same numbers with pieces there have equal counters.
+    /// Two servers of a shard that ran the same numbers with pieces there have equal counters: the same values and the same full marks.
     EqualCounters,
-    /// A number has the same results at every server of the shard that ran it.
+    /// A number has the same results at every server of the shard that ran it, kept or not.
     EqualResults,
     /// A run answers how many it logged.
     RunCount,

@@ -1,7 +1,9 @@
 //! How often each path of the protocol was taken, so that a quiet simulator is seen to be one that tried everything.
 
+use engine::ran::{pieces_run, Done};
 use model::drive::{ACCEPT, COMMIT, PREPARE, PRE_ACCEPT};
-use model::{Drive, Message};
+use model::pieces::PUT;
+use model::{Drive, Message, Server};
 
 macro_rules! tally {
     ($($field:ident: $what:literal),* $(,)?) => {
@@ -42,10 +44,22 @@ tally! {
     vanished: "drives that vanished",
     groups: "runs of two or more numbers together",
     ran: "numbers run",
+    filled: "adds that left a counter full",
+    met_full: "adds and reads that found a counter full",
+    cleared: "puts that cleared a full counter",
     inquiries: "inquiries after wanted numbers",
 }
 
 impl Tally {
+    /// Notes what a run did to the full marks of a server.
+    pub fn note_run(&mut self, before: &Server, after: &Server) {
+        for Done { piece, from, to } in pieces_run(before, after) {
+            self.filled += u64::from(to.full && !from.full);
+            self.met_full += u64::from(from.full && piece.kind != PUT);
+            self.cleared += u64::from(from.full && piece.kind == PUT);
+        }
+    }
+
     /// Notes what a reply or a "move on" did to a drive.
     pub fn note_drive(&mut self, before: &Drive, after: &Drive, reply: Option<&Message>) {
         let done = matches!(reply, Some(Message::Done { .. }));

@@ -30,12 +30,20 @@ pub fn pieces(chance: &mut Chance, ground: &Ground) -> Pieces {
 
 fn piece(chance: &mut Chance, ground: &Ground, shard: u32, key: u32) -> Piece {
     let kind = if chance.percent(ground.reads) { READ } else { chance.pick(&[PUT, ADD]) };
-    let operand = match kind {
-        READ => 0,
-        _ if chance.percent(10) => chance.pick(&[i32::MIN, i32::MAX, -1, 1]),
-        _ => chance.below(100) as i32,
-    };
+    let operand = if kind == READ { 0 } else { operand(chance, kind) };
     Piece { shard, key, kind, operand }
+}
+
+/// Most puts go to an end of the range and most adds a few steps up or down, so that counters are full, are met so, and are put back.
+fn operand(chance: &mut Chance, kind: u32) -> i32 {
+    let (way, steps) = (chance.below(100), chance.below(100) as i32);
+    match (kind, way) {
+        (_, 0..=9) => [i32::MIN, i32::MAX, -1, 1][steps as usize / 25],
+        (PUT, 10..=39) => i32::MAX - steps / 10,
+        (PUT, 40..=69) => i32::MIN + steps / 10,
+        (ADD, 10..=54) => -steps,
+        _ => steps,
+    }
 }
 
 /// So many different transaction numbers.

@@ -1,5 +1,6 @@
 //! Slips in what a server does.
 
+use crate::at_counter::run_again;
 use crate::Slip;
 use model::cluster::{numbers_in, only};
 use model::run::{execute, Waits};
@@ -71,6 +72,14 @@ pub fn run(slip: Slip, server: &mut Server) -> Result<u32, Refusal> {
     let many = model::run::run(server)?;
     match slip {
         Slip::GroupFallsAtEvenServers if server.id % 2 == 0 && many > 1 => run_falling(server, before),
+        Slip::FullAddTakenAtEvenServers
+        | Slip::PutLeavesFullAtEvenServers
+        | Slip::FullReadUnmarkedAtEvenServers
+        | Slip::KeptAddNotFullAtEvenServers
+            if server.id % 2 == 0 =>
+        {
+            run_again(slip, server, &before)
+        }
         Slip::InventedCount if many > 0 => return Ok(many + 1),
         _ => {}
     }

@@ -1,106 +1,15 @@
 //! The model with a slip planted in it, one at a time. Each is the true model, corrected after the step to what the slip would have done.
 
+mod at_counter;
 mod at_drive;
 mod at_server;
+mod slip;
 
 use engine::{image, layout, Due, Engine, Lent, Plain, LONGEST};
 use model::codec::{decode, encode};
 use model::{Drive, Pieces, Refusal, Server, Set};
 
-/// What was done wrong.
-#[derive(Clone, Copy, Debug, PartialEq, Eq)]
-pub enum Slip {
-    /// A repeated PreAccept lowers accepted to pre-accepted.
-    PreAcceptForgetsAccepted,
-    /// Recovery takes the commonest accepted set, of equals the lowest server's.
-    CommonestAccepted,
-    /// Phase 1 at ballot 0 goes to phase 3 when two words of three are equal in each shard, with those words.
-    FastOnTwoOfThree,
-    /// A repeated PreAccept works out the arrival word anew.
-    ArrivalWordChanges,
-    /// Phase 1 takes what all counted words have, in place of what any has.
-    IntersectionForUnion,
-    /// One answer in each shard is taken for enough.
-    OneAnswerIsEnough,
-    /// Servers with an even number run a group in falling order.
-    GroupFallsAtEvenServers,
-    /// Recovery takes the accepted set of the lowest ballot.
-    LowestAccepted,
-    /// A promise above the ballot isn't looked at.
-    PromiseIgnored,
-    /// An impostor: a server that always says Behind.
-    AlwaysBehind,
-    /// An impostor: a server whose arrival words are always empty.
-    AlwaysEmpty,
-    /// An impostor: a server that answers and stores nothing.
-    StoresNothing,
-    /// An impostor: a run that reports one more than ran.
-    InventedCount,
-    /// An impostor: a run until 0 that executes the first group and only logs the others.
-    FirstGroupOnly,
-    /// The fast path at a recovery ballot.
-    FastAtRecovery,
-    /// Recovery asks anew although it has equal words.
-    EqualWordsIgnored,
-    /// Again forgets the promises that it saw.
-    AgainForgetsPromises,
-    /// A promise above the ballot is answered Behind although the number is committed.
-    BehindBeforeDone,
-}
-
-impl Slip {
-    pub const ALL: [Slip; 18] = [
-        Slip::PreAcceptForgetsAccepted,
-        Slip::CommonestAccepted,
-        Slip::FastOnTwoOfThree,
-        Slip::ArrivalWordChanges,
-        Slip::IntersectionForUnion,
-        Slip::OneAnswerIsEnough,
-        Slip::GroupFallsAtEvenServers,
-        Slip::LowestAccepted,
-        Slip::PromiseIgnored,
-        Slip::AlwaysBehind,
-        Slip::AlwaysEmpty,
-        Slip::StoresNothing,
-        Slip::InventedCount,
-        Slip::FirstGroupOnly,
-        Slip::FastAtRecovery,
-        Slip::EqualWordsIgnored,
-        Slip::AgainForgetsPromises,
-        Slip::BehindBeforeDone,
-    ];
-
-    /// Whether a history can break a promise by it. The others are told from the model by their steps alone.
-    pub fn breaks_promises(self) -> bool {
-        !matches!(
-            self,
-            Slip::FastAtRecovery | Slip::EqualWordsIgnored | Slip::AgainForgetsPromises | Slip::BehindBeforeDone
-        )
-    }
-
-    pub fn words(self) -> &'static str {
-        match self {
-            Slip::PreAcceptForgetsAccepted => "a repeated PreAccept lowers accepted to pre-accepted",
-            Slip::CommonestAccepted => "recovery takes the commonest accepted set",
-            Slip::FastOnTwoOfThree => "the fast path on two equal words of three",
-            Slip::ArrivalWordChanges => "a repeated PreAccept changes the arrival word",
-            Slip::IntersectionForUnion => "the intersection of the words for their union",
-            Slip::OneAnswerIsEnough => "one answer in each shard is enough",
-            Slip::GroupFallsAtEvenServers => "a group runs in falling order at even servers",
-            Slip::LowestAccepted => "recovery takes the accepted set of the lowest ballot",
-            Slip::PromiseIgnored => "a server ignores its promise",
-            Slip::AlwaysBehind => "a server always says Behind",
-            Slip::AlwaysEmpty => "a server always answers an empty word",
-            Slip::StoresNothing => "a server answers and stores nothing",
-            Slip::InventedCount => "a run reports an invented number",
-            Slip::FirstGroupOnly => "a run until 0 executes the first group and only logs the rest",
-            Slip::FastAtRecovery => "the fast path at a recovery ballot",
-            Slip::EqualWordsIgnored => "recovery asks anew although it has equal words",
-            Slip::AgainForgetsPromises => "Again forgets the promises that it saw",
-            Slip::BehindBeforeDone => "Behind is answered before Done",
-        }
-    }
-}
+pub use slip::Slip;
 
 /// The model with one slip.
 #[derive(Clone, Copy, Debug)]

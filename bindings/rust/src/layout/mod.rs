@@ -85,7 +85,8 @@ pub struct MaybeSet {
 pub struct Value {
     /// What the piece gave.
     pub value: i32,
-    /// Not 0 where the sum would have left the range and the old value stayed.
+    /// Not 0 where the value is that of a full [`Counter`], and no total: of an add whose sum would have left the signed 32-bit range,
+    /// of every add to a counter that was full, and of a read of a full counter. Never of a put.
     pub kept: u32,
 }
 
@@ -147,12 +148,15 @@ pub struct Record {
     pub values: Values,
 }
 
-/// A counter.
+/// A counter: a value and a full mark.
 #[repr(C)]
 #[derive(Clone, Copy, Debug, Default, PartialEq, Eq)]
 pub struct Counter {
-    /// What it stands at.
+    /// What it stands at. Of a full counter it is no total.
     pub value: i32,
+    /// Not 0 if it is full. An add whose sum would leave the signed 32-bit range sets it, to 1, and leaves the value. While it is set,
+    /// every add leaves the counter as it is. A put stores its operand and clears it, to 0.
+    pub full: u32,
 }
 
 /// The counters of a shard, by key.
@@ -259,7 +263,7 @@ pub struct Reading {
     pub some: u32,
     /// The value.
     pub value: i32,
-    /// Of a result: not 0 where the old value stayed.
+    /// Of a counter: 1 if it is full, else 0. Of a result: as held, not 0 where [`Value::kept`] says so.
     pub kept: u32,
 }
 

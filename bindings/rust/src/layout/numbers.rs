@@ -100,7 +100,10 @@ impl Numbers for Server {
     fn visit(&mut self, visit: Visit) {
         number(visit, &mut self.id);
         self.records.iter_mut().for_each(|record| record.visit(visit));
-        self.counters.list.iter_mut().for_each(|counter| visit(Place::Signed(&mut counter.value)));
+        for counter in &mut self.counters.list {
+            visit(Place::Signed(&mut counter.value));
+            number(visit, &mut counter.full);
+        }
         self.log.list.iter_mut().for_each(|logged| number(visit, logged));
         number(visit, &mut self.log.count);
     }

@@ -5,37 +5,34 @@ use lib.IntN.{ℤ, _+ℤ_}
 use mir.Syntax.{w32, w64}
 use mir.Val.{SFits, ofZ, toZ}
 use mir.Facts.{sfits-widen}
-use Rattle.counters.specs.Effects.{leaves, gives, added}
+use Rattle.counters.specs.Effects.{leaves, holding, gives, added}
 use Rattle.counters.proofs.Signed.{back, wide, summed, sum-fits, in-range}
 use borrow.Author.Needs.{needs}
 use Rattle.counters.proofs.added.Statement.{statement}
 use Rattle.counters.proofs.added.Tie as tie
 
-cast-sum : tie.Need-cast-sum
-cast-sum c = subst (SFits w64) (sym (back _ (c .fits .old))) (sfits-widen tt (c .fits .old))
-
-cast-sum-2 : tie.Need-cast-sum-2
-cast-sum-2 c = subst (SFits w64) (sym (back _ (c .fits .n))) (sfits-widen tt (c .fits .n))
-
-add-sum : tie.Need-add-sum
-add-sum c = subst (SFits w64) (sym (ap₂ _+ℤ_ (wide _ (c .fits .old)) (wide _ (c .fits .n)))) (sum-fits _ _ (c .fits .old) (c .fits .n))
-
 gives-requires : tie.Need-gives-requires
 gives-requires c κs = search needs
 
 returns : tie.Need-returns
-unfolding added leaves
-returns c =
-    let start = c .before .before in
-    let t = rw (summed _ _ (start .fits .old) (start .fits .n)) at (c .before .if1 .taken) in
-    rw t (c .gives .ensures ∙ ap (λ (z : ℤ). gives z 1) (back _ (start .fits .old)))
+unfolding added
+returns c = rw (c .before .if1 .taken) (c .gives .ensures)
 
-cast-gives : tie.Need-cast-gives
-unfolding leaves
-cast-gives c =
-    let e = summed _ _ (c .before .fits .old) (c .before .fits .n) in
-    let t = rw e at (c .if1 .left) in
-    subst (SFits w32) (sym e) (in-range _ t)
+cast-sum : tie.Need-cast-sum
+cast-sum c =
+    let fits : SFits w32 (c .before .before .before .args .c .value) = record { sfits = c .before .before .struct-told .given .0 .1 } in
+    subst (SFits w64) (sym (back _ fits)) (sfits-widen tt fits)
+
+cast-sum-2 : tie.Need-cast-sum-2
+cast-sum-2 c =
+    let fits = c .before .before .before .fits .n in
+    subst (SFits w64) (sym (back _ fits)) (sfits-widen tt fits)
+
+add-sum : tie.Need-add-sum
+add-sum c =
+    let start = c .before .before .before in
+    let old : SFits w32 (start .args .c .value) = record { sfits = c .before .before .struct-told .given .0 .1 } in
+    subst (SFits w64) (sym (ap₂ _+ℤ_ (wide _ old) (wide _ (start .fits .n)))) (sum-fits _ _ old (start .fits .n))
 
 gives-requires-2 : tie.Need-gives-requires-2
 gives-requires-2 c κs = search needs
@@ -43,20 +40,43 @@ gives-requires-2 c κs = search needs
 returns-2 : tie.Need-returns-2
 unfolding added leaves
 returns-2 c =
-    let start = c .before .before in
-    let e = summed _ _ (start .fits .old) (start .fits .n) in
-    let t = rw e at (c .before .if1 .left) in
-    rw t (c .gives2 .ensures ∙ ap (λ (z : ℤ). gives z 0) (ap (λ (z : ℤ). toZ w32 (ofZ w32 z)) e ∙ back _ (in-range _ t)))
+    let start = c .before .before .before .before .before in
+    let old : SFits w32 (start .args .c .value) = record { sfits = c .before .before .before .before .struct-told .given .0 .1 } in
+    let t = rw (summed _ _ old (start .fits .n)) at (c .before .if2 .taken) in
+    rw (c .before .before .if1 .left, t) (c .gives2 .ensures ∙ ap (λ (z : ℤ). gives (record { value = z; full = 1 }) 1) (back _ old))
+
+cast-t13 : tie.Need-cast-t13
+unfolding leaves
+cast-t13 c =
+    let start = c .before .before .before .before in
+    let old : SFits w32 (start .args .c .value) = record { sfits = c .before .before .before .struct-told .given .0 .1 } in
+    let e = summed _ _ old (start .fits .n) in
+    let t = rw e at (c .if2 .left) in
+    subst (SFits w32) (sym e) (in-range _ t)
+
+gives-requires-3 : tie.Need-gives-requires-3
+gives-requires-3 c κs = search needs
+
+returns-3 : tie.Need-returns-3
+unfolding added leaves
+returns-3 c =
+    let start = c .before .before .before .before .before in
+    let old : SFits w32 (start .args .c .value) = record { sfits = c .before .before .before .before .struct-told .given .0 .1 } in
+    let e = summed _ _ old (start .fits .n) in
+    let t = rw e at (c .before .if2 .left) in
+    rw (c .before .before .if1 .left, t) (c .gives3 .ensures ∙ ap (λ (z : ℤ). gives (holding z) 0) (ap (λ (z : ℤ). toZ w32 (ofZ w32 z)) e ∙ back _ (in-range _ t)))
 
 pub added-spec : {M : Type 1} → statement M
 added-spec =
     tie.close
     (tie.spec
+    gives-requires
+    returns
     cast-sum
     cast-sum-2
     add-sum
-    gives-requires
-    returns
-    cast-gives
     gives-requires-2
-    returns-2)
+    returns-2
+    cast-t13
+    gives-requires-3
+    returns-3)

@@ -6,7 +6,7 @@ mod step;
 
 use crate::ballots::Vote;
 use crate::cluster::{shard_of, NUMBERS, SERVERS};
-use crate::counters::{Counters, Values};
+use crate::counters::{Counter, Counters, Values};
 use crate::pieces::{Pieces, KEYS};
 use crate::refusal::{refuse_if, Refusal};
 use crate::sets::Set;
@@ -66,7 +66,8 @@ impl Server {
     /// A server that has seen nothing.
     pub fn fresh(id: u32) -> Result<Server, Refusal> {
         refuse_if(id >= SERVERS, Refusal::OutOfRange)?;
-        Ok(Server { id, records: [Record::default(); NUMBERS as usize], counters: [0; KEYS as usize], log: Log::EMPTY })
+        let counters = [Counter::default(); KEYS as usize];
+        Ok(Server { id, records: [Record::default(); NUMBERS as usize], counters, log: Log::EMPTY })
     }
 
     pub fn shard(&self) -> u32 {

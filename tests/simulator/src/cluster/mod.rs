@@ -116,6 +116,7 @@ impl<'e, E: Engine> Cluster<'e, E> {
         let seen = self.engine.see_server(&self.servers[place]);
         self.report(News::Ran { server, many, log: seen.log.entries().to_vec() });
         let before = std::mem::replace(&mut self.ran[place], seen);
+        self.tally.note_run(&before, &self.ran[place]);
         self.watch_runs(place, &before, many);
         many
     }

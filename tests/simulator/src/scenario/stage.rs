@@ -2,7 +2,7 @@
 
 use engine::{ask, due, text, Engine};
 use model::cluster::{COORDINATORS, SERVERS};
-use model::{codec, Message, Pieces, Refusal};
+use model::{codec, Counter, Message, Pieces, Refusal};
 use std::collections::BTreeMap;
 
 /// A message with a name: who sent it.
@@ -175,8 +175,9 @@ impl<'e, E: Engine> Stage<'e, E> {
 
     fn counters(&mut self, server: u32, _: &[&str]) -> Option<String> {
         let seen = self.engine.see_server(&self.servers[server as usize]);
-        let set = (0..).zip(seen.counters).filter(|(_, value): &(u32, i32)| *value != 0);
-        let said: Vec<String> = set.map(|(key, value)| format!("key {key} is {value}")).collect();
+        let counted = seen.counters.iter().enumerate().filter(|(_, counter)| **counter != Counter::default());
+        let said: Vec<String> =
+            counted.map(|(key, counter)| format!("key {key} is {}", text::value(&counter.reading()))).collect();
         Some(format!("server {server}: {}", if said.is_empty() { "all are 0".to_string() } else { said.join(", ") }))
     }
 

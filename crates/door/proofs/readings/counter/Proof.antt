@@ -1,6 +1,5 @@
 -- `door::readings::counter` meets its contract. Assumes nothing.
-use mathlib.Core.Path.{ap}
-use lib.IntN.{ℤ}
+use mathlib.Core.Path.{ap₂}
 use mir.Syntax.{w32}
 use mir.Facts.{toZ-ofZ}
 use Rattle.door.specs.Readings.{reading, counterIn}
@@ -15,13 +14,16 @@ mul-x c = search needs
 element-copy-out-x : tie.Need-element-copy-out-x
 element-copy-out-x c = search needs
 
+kept-of-requires : tie.Need-kept-of-requires
+kept-of-requires c κs = search needs
+
 returns : tie.Need-returns
 unfolding counterIn
-returns c = rw (lt-ltb _ _ (c .before .before .if1 .taken)) (ap (λ (z : ℤ). reading z 0) (toZ-ofZ {w = w32} (record { sfits = c .struct-told .given .0 .1 })))
+returns c = rw (lt-ltb _ _ (c .before .before .before .if1 .taken)) (ap₂ reading (toZ-ofZ {w = w32} (record { sfits = c .struct-told .given .0 .1 })) (c .before .kept-of .ensures))
 
 returns-2 : tie.Need-returns-2
 unfolding counterIn
 returns-2 c = rw (le-ltb _ _ (c .if1 .left))
 
 pub counter-spec : {M : Type 1} → statement M
-counter-spec = tie.close (tie.spec mul-x element-copy-out-x returns returns-2)
+counter-spec = tie.close (tie.spec mul-x element-copy-out-x kept-of-requires returns returns-2)

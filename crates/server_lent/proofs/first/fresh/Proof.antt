@@ -335,7 +335,7 @@ module _ {M : Type 1} (𝓤 : URA M) (H : Heap 𝓤) (A : Atoms 𝓤) (W : Given
 
     step-9 : (is-1 : Is usize (told-1 s id) ((vint w64 (told-1 s id)) ∷ [])) (is-2 : Is usize (told-2 s id) ((vint w64 (told-2 s id)) ∷ [])) (was-2 : Sound (left-2 s id)) (is-4 : Is RCounters.the-row ((left-2 s id) .counters) ((LL.val RCounters.the-type LCounters.the-laws ((left-2 s id) .counters)) ∷ [])) (is-5 : Is RCounters.the-row (told-5 s id) ((LL.val RCounters.the-type LCounters.the-laws (told-5 s id)) ∷ [])) (was-6 : Sound (left-6 s id)) (is-7 : Is RLog.the-row ((left-6 s id) .log) ((LL.val RLog.the-type LLog.the-laws ((left-6 s id) .log)) ∷ [])) (is-8 : Is RLog.the-row (told-8 s id) ((LL.val RLog.the-type LLog.the-laws (told-8 s id)) ∷ [])) → Sq W (‵ (cellAt fullShare (RServer.the-row .mir) ((LL.vals RServer.the-type LServer.the-laws) (left-6 s id)) b o) ∷ ‵ (fobor κ q (Body (mem RServer.the-row) b o γ)) ∷ ‵ (fobs γ (RServer.the-row .coded .code s)) ∷ ‵ (fauth γ (RServer.the-row .coded .code s)) ∷ ‵ (fat fullShare (tyRef erased mut (pointee (RServer.the-row .written))) l11 zero (vptr b o)) ∷ ‵ (fdies (tyRef erased mut (pointee (RServer.the-row .written))) l11) ∷ ‵ (froom (tyInt w32) l10 zero) ∷ ‵ (fdies (tyInt w32) l10) ∷ ‵ (froom (tyInt w32) l9 zero) ∷ ‵ (fdies (tyInt w32) l9) ∷ ‵ (fat fullShare LLog.mir l8 zero (LL.val RLog.the-type LLog.the-laws (told-8 s id))) ∷ ‵ (fdies LLog.mir l8) ∷ ‵ (fat fullShare LLog.mir l7 zero (LL.val RLog.the-type LLog.the-laws ((left-6 s id) .log))) ∷ ‵ (fdies LLog.mir l7) ∷ ‵ (fat fullShare LCounters.mir l6 zero (LL.val RCounters.the-type LCounters.the-laws (told-5 s id))) ∷ ‵ (fdies LCounters.mir l6) ∷ ‵ (fat fullShare LCounters.mir l5 zero (LL.val RCounters.the-type LCounters.the-laws ((left-2 s id) .counters))) ∷ ‵ (fdies LCounters.mir l5) ∷ ‵ (fat fullShare (tyInt w64) l4 zero (vint w64 (told-2 s id))) ∷ ‵ (fdies (tyInt w64) l4) ∷ ‵ (fat fullShare (tyInt w64) l3 zero (vint w64 (told-1 s id))) ∷ ‵ (fdies (tyInt w64) l3) ∷ ‵ (fat fullShare (tyInt w32) l2 zero (vint w32 id)) ∷ ‵ (fdies (tyInt w32) l2) ∷ ‵ (fat fullShare (tyRef (named 0) mut (pointee (RServer.the-row .written))) l1 zero (vptr b o)) ∷ ‵ (fdies (tyRef (named 0) mut (pointee (RServer.the-row .written))) l1) ∷ ‵ (froom (tyInt w32) l0 zero) ∷ ‵ (fdies (tyInt w32) l0) ∷ []) (runs (𝓣 .C) (𝓣 .Λ) En code-mir.t-9 (atRet En Post))
     step-9 is-1 is-2 was-2 is-4 is-5 was-6 is-7 is-8 =
-        assigns ! (of-opd ! (load ! (from ! (stop !)) (look ! 10 refl))) (from ! (hop ! (look ! 24 refl) (fld ! {τ = LLog.mir} {d = 19528} refl (stop !)))) (store-in ! 0 (unraw ! (sub ! 3 {τ = rawTy LLog.mir} {d = 19528} refl (whole !))) (LL.lawful RLog.the-type LLog.the-laws 𝓤 H A W .typed (told-8 s id) _ is-8 .0)) $
+        assigns ! (of-opd ! (load ! (from ! (stop !)) (look ! 10 refl))) (from ! (hop ! (look ! 24 refl) (fld ! {τ = LLog.mir} {d = 19592} refl (stop !)))) (store-in ! 0 (unraw ! (sub ! 3 {τ = rawTy LLog.mir} {d = 19592} refl (whole !))) (LL.lawful RLog.the-type LLog.the-laws 𝓤 H A W .typed (told-8 s id) _ is-8 .0)) $
         rewrite ! 0 (λ (h : Server). ‵ (cellAt fullShare (RServer.the-row .mir) ((LL.vals RServer.the-type LServer.the-laws) h) b o)) (refl ∙ left-9-is s id) refl $
         step-10 is-1 is-2 was-2 is-4 is-5 was-6 is-7 is-8 (subst Sound (refl ∙ left-9-is s id) (made-Server-log (left-6 s id) (told-8 s id) was-6 is-8))
 
@@ -354,7 +354,7 @@ module _ {M : Type 1} (𝓤 : URA M) (H : Heap 𝓤) (A : Atoms 𝓤) (W : Given
 
     step-7 : (is-1 : Is usize (told-1 s id) ((vint w64 (told-1 s id)) ∷ [])) (is-2 : Is usize (told-2 s id) ((vint w64 (told-2 s id)) ∷ [])) (was-2 : Sound (left-2 s id)) (is-4 : Is RCounters.the-row ((left-2 s id) .counters) ((LL.val RCounters.the-type LCounters.the-laws ((left-2 s id) .counters)) ∷ [])) (is-5 : Is RCounters.the-row (told-5 s id) ((LL.val RCounters.the-type LCounters.the-laws (told-5 s id)) ∷ [])) (was-6 : Sound (left-6 s id)) → Sq W (‵ (cellAt fullShare (RServer.the-row .mir) ((LL.vals RServer.the-type LServer.the-laws) (left-6 s id)) b o) ∷ ‵ (fobor κ q (Body (mem RServer.the-row) b o γ)) ∷ ‵ (fobs γ (RServer.the-row .coded .code s)) ∷ ‵ (fauth γ (RServer.the-row .coded .code s)) ∷ ‵ (fat fullShare (tyRef erased mut (pointee (RServer.the-row .written))) l11 zero (vptr b o)) ∷ ‵ (fdies (tyRef erased mut (pointee (RServer.the-row .written))) l11) ∷ ‵ (froom (tyInt w32) l10 zero) ∷ ‵ (fdies (tyInt w32) l10) ∷ ‵ (froom (tyInt w32) l9 zero) ∷ ‵ (fdies (tyInt w32) l9) ∷ ‵ (froom LLog.mir l8 zero) ∷ ‵ (fdies LLog.mir l8) ∷ ‵ (froom LLog.mir l7 zero) ∷ ‵ (fdies LLog.mir l7) ∷ ‵ (fat fullShare LCounters.mir l6 zero (LL.val RCounters.the-type LCounters.the-laws (told-5 s id))) ∷ ‵ (fdies LCounters.mir l6) ∷ ‵ (fat fullShare LCounters.mir l5 zero (LL.val RCounters.the-type LCounters.the-laws ((left-2 s id) .counters))) ∷ ‵ (fdies LCounters.mir l5) ∷ ‵ (fat fullShare (tyInt w64) l4 zero (vint w64 (told-2 s id))) ∷ ‵ (fdies (tyInt w64) l4) ∷ ‵ (fat fullShare (tyInt w64) l3 zero (vint w64 (told-1 s id))) ∷ ‵ (fdies (tyInt w64) l3) ∷ ‵ (fat fullShare (tyInt w32) l2 zero (vint w32 id)) ∷ ‵ (fdies (tyInt w32) l2) ∷ ‵ (fat fullShare (tyRef (named 0) mut (pointee (RServer.the-row .written))) l1 zero (vptr b o)) ∷ ‵ (fdies (tyRef (named 0) mut (pointee (RServer.the-row .written))) l1) ∷ ‵ (froom (tyInt w32) l0 zero) ∷ ‵ (fdies (tyInt w32) l0) ∷ []) (runs (𝓣 .C) (𝓣 .Λ) En code-mir.t-7 (atRet En Post))
     step-7 is-1 is-2 was-2 is-4 is-5 was-6 =
-        assigns ! (of-opd ! (load ! (from ! (hop ! (look ! 24 refl) (fld ! {τ = LLog.mir} {d = 19528} refl (stop !)))) (look-field ! 0 (LL.val RLog.the-type LLog.the-laws ((left-6 s id) .log)) refl (sub ! 3 {τ = rawTy LLog.mir} {d = 19528} refl (whole !))))) (from ! (stop !)) (init ! 12 refl (LL.lawful RLog.the-type LLog.the-laws 𝓤 H A W .typed ((left-6 s id) .log) _ (Server-log-is (left-6 s id) was-6) .0)) $
+        assigns ! (of-opd ! (load ! (from ! (hop ! (look ! 24 refl) (fld ! {τ = LLog.mir} {d = 19592} refl (stop !)))) (look-field ! 0 (LL.val RLog.the-type LLog.the-laws ((left-6 s id) .log)) refl (sub ! 3 {τ = rawTy LLog.mir} {d = 19592} refl (whole !))))) (from ! (stop !)) (init ! 12 refl (LL.lawful RLog.the-type LLog.the-laws 𝓤 H A W .typed ((left-6 s id) .log) _ (Server-log-is (left-6 s id) was-6) .0)) $
         step-8 is-1 is-2 was-2 is-4 is-5 was-6 (Server-log-is (left-6 s id) was-6)
 
     step-6 : (is-1 : Is usize (told-1 s id) ((vint w64 (told-1 s id)) ∷ [])) (is-2 : Is usize (told-2 s id) ((vint w64 (told-2 s id)) ∷ [])) (was-2 : Sound (left-2 s id)) (is-4 : Is RCounters.the-row ((left-2 s id) .counters) ((LL.val RCounters.the-type LCounters.the-laws ((left-2 s id) .counters)) ∷ [])) (is-5 : Is RCounters.the-row (told-5 s id) ((LL.val RCounters.the-type LCounters.the-laws (told-5 s id)) ∷ [])) → Sq W (‵ (cellAt fullShare (RServer.the-row .mir) ((LL.vals RServer.the-type LServer.the-laws) (left-2 s id)) b o) ∷ ‵ (fobor κ q (Body (mem RServer.the-row) b o γ)) ∷ ‵ (fobs γ (RServer.the-row .coded .code s)) ∷ ‵ (fauth γ (RServer.the-row .coded .code s)) ∷ ‵ (fat fullShare (tyRef erased mut (pointee (RServer.the-row .written))) l11 zero (vptr b o)) ∷ ‵ (fdies (tyRef erased mut (pointee (RServer.the-row .written))) l11) ∷ ‵ (froom (tyInt w32) l10 zero) ∷ ‵ (fdies (tyInt w32) l10) ∷ ‵ (froom (tyInt w32) l9 zero) ∷ ‵ (fdies (tyInt w32) l9) ∷ ‵ (froom LLog.mir l8 zero) ∷ ‵ (fdies LLog.mir l8) ∷ ‵ (froom LLog.mir l7 zero) ∷ ‵ (fdies LLog.mir l7) ∷ ‵ (fat fullShare LCounters.mir l6 zero (LL.val RCounters.the-type LCounters.the-laws (told-5 s id))) ∷ ‵ (fdies LCounters.mir l6) ∷ ‵ (fat fullShare LCounters.mir l5 zero (LL.val RCounters.the-type LCounters.the-laws ((left-2 s id) .counters))) ∷ ‵ (fdies LCounters.mir l5) ∷ ‵ (fat fullShare (tyInt w64) l4 zero (vint w64 (told-2 s id))) ∷ ‵ (fdies (tyInt w64) l4) ∷ ‵ (fat fullShare (tyInt w64) l3 zero (vint w64 (told-1 s id))) ∷ ‵ (fdies (tyInt w64) l3) ∷ ‵ (fat fullShare (tyInt w32) l2 zero (vint w32 id)) ∷ ‵ (fdies (tyInt w32) l2) ∷ ‵ (fat fullShare (tyRef (named 0) mut (pointee (RServer.the-row .written))) l1 zero (vptr b o)) ∷ ‵ (fdies (tyRef (named 0) mut (pointee (RServer.the-row .written))) l1) ∷ ‵ (froom (tyInt w32) l0 zero) ∷ ‵ (fdies (tyInt w32) l0) ∷ []) (runs (𝓣 .C) (𝓣 .Λ) En code-mir.t-6 (atRet En Post))

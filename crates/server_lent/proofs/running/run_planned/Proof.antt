@@ -187,7 +187,7 @@ module _ {M : Type 1} (𝓤 : URA M) (H : Heap 𝓤) (A : Atoms 𝓤) (W : Given
 
     step-4 : (is-1 : Is usize (told-1 s p log many) ((vint w64 (told-1 s p log many)) ∷ [])) (is-2 : Is usize (told-2 s p log many) ((vint w64 (told-2 s p log many)) ∷ [])) (was-2 : Sound (left-2 s p log many)) → Sq W (‵ (cellAt fullShare (RServer.the-row .mir) ((LL.vals RServer.the-type LServer.the-laws) (left-2 s p log many)) b o) ∷ ‵ (fobor κ q (Body (mem RServer.the-row) b o γ)) ∷ ‵ (fobs γ (RServer.the-row .coded .code s)) ∷ ‵ (fauth γ (RServer.the-row .coded .code s)) ∷ ‵ (fat fullShare (tyRef erased mut (pointee (RServer.the-row .written))) l7 zero (vptr b o)) ∷ ‵ (fdies (tyRef erased mut (pointee (RServer.the-row .written))) l7) ∷ ‵ (fat fullShare (tyInt w64) l6 zero (vint w64 (told-2 s p log many))) ∷ ‵ (fdies (tyInt w64) l6) ∷ ‵ (fat fullShare (tyInt w64) l5 zero (vint w64 (told-1 s p log many))) ∷ ‵ (fdies (tyInt w64) l5) ∷ ‵ (fat fullShare (tyInt w64) l4 zero (vint w64 many)) ∷ ‵ (fdies (tyInt w64) l4) ∷ ‵ (fat fullShare LLog.mir l3 zero (LL.val RLog.the-type LLog.the-laws log)) ∷ ‵ (fdies LLog.mir l3) ∷ ‵ (fat fullShare LPlan.mir l2 zero (LL.val RPlan.the-type LPlan.the-laws p)) ∷ ‵ (fdies LPlan.mir l2) ∷ ‵ (fat fullShare (tyRef (named 0) mut (pointee (RServer.the-row .written))) l1 zero (vptr b o)) ∷ ‵ (fdies (tyRef (named 0) mut (pointee (RServer.the-row .written))) l1) ∷ ‵ (froom (tyInt w64) l0 zero) ∷ ‵ (fdies (tyInt w64) l0) ∷ []) (runs (𝓣 .C) (𝓣 .Λ) En code-mir.t-4 (atRet En Post))
     step-4 is-1 is-2 was-2 =
-        assigns ! (of-opd ! (load ! (from ! (stop !)) (look ! 12 refl))) (from ! (hop ! (look ! 16 refl) (fld ! {τ = LLog.mir} {d = 19528} refl (stop !)))) (store-in ! 0 (unraw ! (sub ! 3 {τ = rawTy LLog.mir} {d = 19528} refl (whole !))) (LL.lawful RLog.the-type LLog.the-laws 𝓤 H A W .typed log _ is-log .0)) $
+        assigns ! (of-opd ! (load ! (from ! (stop !)) (look ! 12 refl))) (from ! (hop ! (look ! 16 refl) (fld ! {τ = LLog.mir} {d = 19592} refl (stop !)))) (store-in ! 0 (unraw ! (sub ! 3 {τ = rawTy LLog.mir} {d = 19592} refl (whole !))) (LL.lawful RLog.the-type LLog.the-laws 𝓤 H A W .typed log _ is-log .0)) $
         rewrite ! 0 (λ (h : Server). ‵ (cellAt fullShare (RServer.the-row .mir) ((LL.vals RServer.the-type LServer.the-laws) h) b o)) (refl ∙ left-4-is s p log many) refl $
         step-5 is-1 is-2 was-2 (subst Sound (refl ∙ left-4-is s p log many) (made-Server-log (left-2 s p log many) log was-2 is-log))
 

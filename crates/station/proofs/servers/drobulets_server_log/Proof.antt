@@ -143,7 +143,7 @@ module _ {M : Type 1} (𝓤 : URA M) (H : Heap 𝓤) (A : Atoms 𝓤) (W : Given
     step-1 =
         move ! (1 ∷ []) $ use1 W (‵ lent ⊛ ‵ lent) (shr-copy 𝓤 H A W (named 0) κ RServer.the-row .twice sr (vptr b o ∷ [])) $ split ! $ fsplit3 ! $ drop ! $ drop ! $ move ! (0 ∷ 2 ∷ []) $
         looks ! tt RServer.the-row (Is RServer.the-row) (shows 𝓤 H A RServer.the-row) (LL.vals RServer.the-type LServer.the-laws) (LL.tells RServer.the-type LServer.the-laws) (LL.copy RServer.the-type LServer.the-copy 𝓤 H A W) s b o (λ q″ vs. spelt ! RServer.the-row (Is RServer.the-row) (shows 𝓤 H A RServer.the-row) (LL.vals RServer.the-type LServer.the-laws) (LL.tells RServer.the-type LServer.the-laws) q″ s vs b o $
-        assigns ! (of-opd ! (load ! (from ! (hop ! (look ! 9 refl) (fld ! {τ = LLog.mir} {d = 19528} refl (stop !)))) (look-field ! 0 (LL.val RLog.the-type LLog.the-laws (s .log)) refl (sub ! 3 {τ = rawTy LLog.mir} {d = 19528} refl (whole !))))) (from ! (stop !)) (init ! 5 refl (LL.lawful RLog.the-type LLog.the-laws 𝓤 H A W .typed (s .log) _ (Server-log-is s was) .0)) $
+        assigns ! (of-opd ! (load ! (from ! (hop ! (look ! 9 refl) (fld ! {τ = LLog.mir} {d = 19592} refl (stop !)))) (look-field ! 0 (LL.val RLog.the-type LLog.the-laws (s .log)) refl (sub ! 3 {τ = rawTy LLog.mir} {d = 19592} refl (whole !))))) (from ! (stop !)) (init ! 5 refl (LL.lawful RLog.the-type LLog.the-laws 𝓤 H A W .typed (s .log) _ (Server-log-is s was) .0)) $
         shuts ! tt RServer.the-row q″ s ((LL.vals RServer.the-type LServer.the-laws) s) b o $ move ! (1 ∷ []) $ drop ! $ step-2 (Server-log-is s was))
 
   module _ (𝓣 : Tables 𝓤 H) (known-log-entry : Triple 𝓤 (𝓣 .C #door·readings·log-entry) (C-log-entry 𝓤 H A at-mem routines)) where

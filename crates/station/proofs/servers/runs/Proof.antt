@@ -424,7 +424,7 @@ module _ {M : Type 1} (𝓤 : URA M) (H : Heap 𝓤) (A : Atoms 𝓤) (W : Given
 
     step-8 : (is-1 : Is RForm.the-row (told-1 s limit) ((LL.val RForm.the-type LForm.the-laws (told-1 s limit)) ∷ [])) (is-3 : Is RForm.the-row (told-3 s limit) ((LL.val RForm.the-type LForm.the-laws (told-3 s limit)) ∷ [])) (is-5 : Is usize (told-5 s limit) ((vint w64 (told-5 s limit)) ∷ [])) (is-6 : Is RWaiting.the-row (told-6 s limit) ((LL.val RWaiting.the-type LWaiting.the-laws (told-6 s limit)) ∷ [])) → Sq W (‵ (cellAt fullShare (RServer.the-row .mir) ((LL.vals RServer.the-type LServer.the-laws) s) b o) ∷ ‵ (fobor κ q (Body (mem RServer.the-row) b o γ)) ∷ ‵ (fobs γ (RServer.the-row .coded .code s)) ∷ ‵ (fauth γ (RServer.the-row .coded .code s)) ∷ ‵ (froom (tyRef erased mut (pointee (RServer.the-row .written))) l16 zero) ∷ ‵ (fdies (tyRef erased mut (pointee (RServer.the-row .written))) l16) ∷ ‵ (fat fullShare (tyRef erased imm (pointee (RServer.the-row .written))) l15 zero (vptr b o)) ∷ ‵ (fdies (tyRef erased imm (pointee (RServer.the-row .written))) l15) ∷ ‵ (fat fullShare (tyRef erased imm (pointee (RServer.the-row .written))) l14 zero (vptr b o)) ∷ ‵ (fdies (tyRef erased imm (pointee (RServer.the-row .written))) l14) ∷ ‵ (fat fullShare (tyRef erased imm (pointee (RServer.the-row .written))) l13 zero (vptr b o)) ∷ ‵ (fdies (tyRef erased imm (pointee (RServer.the-row .written))) l13) ∷ ‵ (froom (tyInt w64) l12 zero) ∷ ‵ (fdies (tyInt w64) l12) ∷ ‵ (froom (tyInt w64) l11 zero) ∷ ‵ (fdies (tyInt w64) l11) ∷ ‵ (froom LLog.mir l10 zero) ∷ ‵ (fdies LLog.mir l10) ∷ ‵ (froom LPlan.mir l9 zero) ∷ ‵ (fdies LPlan.mir l9) ∷ ‵ (froom LPlanned.mir l8 zero) ∷ ‵ (fdies LPlanned.mir l8) ∷ ‵ (froom LLog.mir l7 zero) ∷ ‵ (fdies LLog.mir l7) ∷ ‵ (fat fullShare LWaiting.mir l6 zero (LL.val RWaiting.the-type LWaiting.the-laws (told-6 s limit))) ∷ ‵ (fdies LWaiting.mir l6) ∷ ‵ (fat fullShare (tyInt w64) l5 zero (vint w64 (told-5 s limit))) ∷ ‵ (fdies (tyInt w64) l5) ∷ ‵ (fat fullShare LForm.mir l4 zero (LL.val RForm.the-type LForm.the-laws (told-3 s limit))) ∷ ‵ (fdies LForm.mir l4) ∷ ‵ (fat fullShare LForm.mir l3 zero (LL.val RForm.the-type LForm.the-laws (told-1 s limit))) ∷ ‵ (fdies LForm.mir l3) ∷ ‵ (fat fullShare (tyInt w32) l2 zero (vint w32 limit)) ∷ ‵ (fdies (tyInt w32) l2) ∷ ‵ (fat fullShare (tyRef (named 0) mut (pointee (RServer.the-row .written))) l1 zero (vptr b o)) ∷ ‵ (fdies (tyRef (named 0) mut (pointee (RServer.the-row .written))) l1) ∷ ‵ (froom LCounted.mir l0 zero) ∷ ‵ (fdies LCounted.mir l0) ∷ []) (runs (𝓣 .C) (𝓣 .Λ) En code-mir.t-8 (atRet En Post))
     step-8 is-1 is-3 is-5 is-6 =
-        assigns ! (of-opd ! (load ! (from ! (hop ! (look ! 34 refl) (fld ! {τ = LLog.mir} {d = 19528} refl (stop !)))) (look-field ! 0 (LL.val RLog.the-type LLog.the-laws (s .log)) refl (sub ! 3 {τ = rawTy LLog.mir} {d = 19528} refl (whole !))))) (from ! (stop !)) (init ! 22 refl (LL.lawful RLog.the-type LLog.the-laws 𝓤 H A W .typed (s .log) _ (Server-log-is s was) .0)) $
+        assigns ! (of-opd ! (load ! (from ! (hop ! (look ! 34 refl) (fld ! {τ = LLog.mir} {d = 19592} refl (stop !)))) (look-field ! 0 (LL.val RLog.the-type LLog.the-laws (s .log)) refl (sub ! 3 {τ = rawTy LLog.mir} {d = 19592} refl (whole !))))) (from ! (stop !)) (init ! 22 refl (LL.lawful RLog.the-type LLog.the-laws 𝓤 H A W .typed (s .log) _ (Server-log-is s was) .0)) $
         step-9 is-1 is-3 is-5 is-6 (Server-log-is s was)
 
     step-6 : (is-1 : Is RForm.the-row (told-1 s limit) ((LL.val RForm.the-type LForm.the-laws (told-1 s limit)) ∷ [])) (is-3 : Is RForm.the-row (told-3 s limit) ((LL.val RForm.the-type LForm.the-laws (told-3 s limit)) ∷ [])) (is-5 : Is usize (told-5 s limit) ((vint w64 (told-5 s limit)) ∷ [])) → Sq W (‵ (cellAt fullShare (RServer.the-row .mir) ((LL.vals RServer.the-type LServer.the-laws) s) b o) ∷ ‵ (fobor κ q (Body (mem RServer.the-row) b o γ)) ∷ ‵ (fobs γ (RServer.the-row .coded .code s)) ∷ ‵ (fauth γ (RServer.the-row .coded .code s)) ∷ ‵ (froom (tyRef erased mut (pointee (RServer.the-row .written))) l16 zero) ∷ ‵ (fdies (tyRef erased mut (pointee (RServer.the-row .written))) l16) ∷ ‵ (froom (tyRef erased imm (pointee (RServer.the-row .written))) l15 zero) ∷ ‵ (fdies (tyRef erased imm (pointee (RServer.the-row .written))) l15) ∷ ‵ (fat fullShare (tyRef erased imm (pointee (RServer.the-row .written))) l14 zero (vptr b o)) ∷ ‵ (fdies (tyRef erased imm (pointee (RServer.the-row .written))) l14) ∷ ‵ (fat fullShare (tyRef erased imm (pointee (RServer.the-row .written))) l13 zero (vptr b o)) ∷ ‵ (fdies (tyRef erased imm (pointee (RServer.the-row .written))) l13) ∷ ‵ (froom (tyInt w64) l12 zero) ∷ ‵ (fdies (tyInt w64) l12) ∷ ‵ (froom (tyInt w64) l11 zero) ∷ ‵ (fdies (tyInt w64) l11) ∷ ‵ (froom LLog.mir l10 zero) ∷ ‵ (fdies LLog.mir l10) ∷ ‵ (froom LPlan.mir l9 zero) ∷ ‵ (fdies LPlan.mir l9) ∷ ‵ (froom LPlanned.mir l8 zero) ∷ ‵ (fdies LPlanned.mir l8) ∷ ‵ (froom LLog.mir l7 zero) ∷ ‵ (fdies LLog.mir l7) ∷ ‵ (froom LWaiting.mir l6 zero) ∷ ‵ (fdies LWaiting.mir l6) ∷ ‵ (fat fullShare (tyInt w64) l5 zero (vint w64 (told-5 s limit))) ∷ ‵ (fdies (tyInt w64) l5) ∷ ‵ (fat fullShare LForm.mir l4 zero (LL.val RForm.the-type LForm.the-laws (told-3 s limit))) ∷ ‵ (fdies LForm.mir l4) ∷ ‵ (fat fullShare LForm.mir l3 zero (LL.val RForm.the-type LForm.the-laws (told-1 s limit))) ∷ ‵ (fdies LForm.mir l3) ∷ ‵ (fat fullShare (tyInt w32) l2 zero (vint w32 limit)) ∷ ‵ (fdies (tyInt w32) l2) ∷ ‵ (fat fullShare (tyRef (named 0) mut (pointee (RServer.the-row .written))) l1 zero (vptr b o)) ∷ ‵ (fdies (tyRef (named 0) mut (pointee (RServer.the-row .written))) l1) ∷ ‵ (froom LCounted.mir l0 zero) ∷ ‵ (fdies LCounted.mir l0) ∷ []) (runs (𝓣 .C) (𝓣 .Λ) En code-mir.t-6 (atRet En Post))

@@ -1,6 +1,7 @@
 //! What the day must have come to.
 
 use crate::words::SPARES;
+use engine::text;
 use model::cluster::{servers_of, SHARDS};
 use model::{Pieces, Server};
 use std::collections::BTreeMap;
@@ -15,7 +16,7 @@ pub fn outcome(servers: &[Server], transactions: &BTreeMap<u32, Pieces>) -> Opti
     let different =
         (0..SHARDS).find(|shard| !alike(servers, *shard)).map(|shard| format!("shard {shard} counts differently"));
     let lost = (0..SPARES.len()).find_map(|key| {
-        let counted: i32 = (0..SHARDS).map(|shard| servers[servers_of(shard).start as usize].counters[key]).sum();
+        let counted: i32 = (0..SHARDS).map(|shard| servers[servers_of(shard).start as usize].counters[key].value).sum();
         let all = transactions.values().flat_map(|pieces| pieces.entries()).filter(|piece| piece.key as usize == key);
         let delivered: i32 = all.map(|piece| piece.operand).sum();
         (counted != delivered).then(|| format!("{delivered} {} were delivered, and {counted} are counted", SPARES[key]))
@@ -23,7 +24,7 @@ pub fn outcome(servers: &[Server], transactions: &BTreeMap<u32, Pieces>) -> Opti
     unrun.or(different).or(lost)
 }
 
-/// Whether the three stations of a shard count the same.
+/// Whether the three stations of a shard count the same, up to what is full.
 fn alike(servers: &[Server], shard: u32) -> bool {
     let first = &servers[servers_of(shard).start as usize];
     servers_of(shard).all(|server| servers[server as usize].counters == first.counters)
@@ -34,7 +35,7 @@ pub fn table(servers: &[Server]) -> Vec<String> {
     let mut lines =
         vec![format!("{:22}{:>9}{:>9}{:>9}{:>7}", "At the end of the day", SPARES[0], SPARES[1], SPARES[2], "ran")];
     for server in servers {
-        let [pumps, valves, filters] = [0, 1, 2].map(|key| server.counters[key]);
+        let [pumps, valves, filters] = [0, 1, 2].map(|key| text::value(&server.counters[key].reading()));
         let place = format!("shard {}, station {}", server.shard(), server.id);
         let third = server.id + 1 == servers_of(server.shard()).end;
         let same = match (third, alike(servers, server.shard())) {
@@ -76,9 +77,17 @@ mod tests {
     #[test]
     fn a_station_that_counts_otherwise_is_seen() {
         let (mut servers, transactions) = good_day();
-        servers[4].counters[2] = 1;
+        servers[4].counters[2].value = 1;
         assert_eq!(outcome(&servers, &transactions), Some("shard 1 counts differently".to_string()));
         assert!(table(&servers)[6].ends_with("NOT THE SAME"));
+    }
+
+    #[test]
+    fn a_station_that_is_full_alone_is_seen() {
+        let (mut servers, transactions) = good_day();
+        servers[5].counters[1].full = true;
+        assert_eq!(outcome(&servers, &transactions), Some("shard 1 counts differently".to_string()));
+        assert!(table(&servers)[6].contains("5 kept") && table(&servers)[6].ends_with("NOT THE SAME"));
     }
 
     #[test]
@@ -91,7 +100,7 @@ mod tests {
     #[test]
     fn spares_that_are_gone_are_seen() {
         let (mut servers, transactions) = good_day();
-        servers[..3].iter_mut().for_each(|server| server.counters[1] -= 1);
+        servers[..3].iter_mut().for_each(|server| server.counters[1].value -= 1);
         assert_eq!(outcome(&servers, &transactions), Some("0 valves were delivered, and -1 are counted".to_string()));
     }
 }

@@ -2,7 +2,7 @@
 
 use crate::screen::Screen;
 use crate::words;
-use engine::Engine;
+use engine::{text, Engine};
 use model::cluster::servers_of;
 use model::{codec, Message, Pieces};
 use simulator::cluster::Cluster;
@@ -153,8 +153,8 @@ impl Watcher {
             return String::new();
         }
         let counts = |shard: u32, key: u32| {
-            let counts: Vec<String> =
-                servers_of(shard).map(|s| servers[s as usize].counters[key as usize].to_string()).collect();
+            let count = |s: u32| text::value(&servers[s as usize].counters[key as usize].reading());
+            let counts: Vec<String> = servers_of(shard).map(count).collect();
             format!("shard {shard} counts {}", counts.join(" "))
         };
         let said: Vec<String> = pieces.entries().iter().map(|piece| counts(piece.shard, piece.key)).collect();
