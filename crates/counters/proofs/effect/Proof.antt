@@ -26,7 +26,7 @@ returns-2 : tie.Need-returns-2
 unfolding effect
 returns-2 c =
     let start = c .before .before .before in
-    rw (c .before .before .if1 .left, c .before .if2 .taken) (c .gives2 .ensures ∙ ap (λ (z : ℤ). gives (holding z) 0) (back _ (start .fits .operand)))
+    rw (c .before .before .if1 .left, c .before .if2 .taken) (c .gives2 .ensures ∙ ap (λ (z : ℤ). gives (holding z) 0) (back _ (start .fits .n)))
 
 added-requires : tie.Need-added-requires
 added-requires c κs = search needs
@@ -35,7 +35,7 @@ returns-3 : tie.Need-returns-3
 unfolding effect
 returns-3 c =
     let start = c .before .before .before in
-    rw (c .before .before .if1 .left, c .before .if2 .left) (c .added .ensures ∙ ap (added (start .args .counter)) (back _ (start .fits .operand)))
+    rw (c .before .before .if1 .left, c .before .if2 .left) (c .added .ensures ∙ ap (added (start .args .counter)) (back _ (start .fits .n)))
 
 pub effect-spec : {M : Type 1} → statement M
 effect-spec =
