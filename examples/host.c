@@ -45,7 +45,7 @@ static int dropped(uint32_t refusal)
     return refusal != 0;
 }
 
-/* A message reaches a server. Gives the length of its reply, which goes to whoever asked (S5), or 0 for none. */
+/* A message reaches a server, and the yard is told what it ran. Gives the length of its reply, which goes to whoever asked (S5), or 0 for none. */
 static uint32_t ask(uint32_t s, const uint8_t *message, size_t length, uint8_t *reply)
 {
     if (!(trunks & AT(s)))
@@ -53,9 +53,10 @@ static uint32_t ask(uint32_t s, const uint8_t *message, size_t length, uint8_t *
     drobulets_answer answer = drobulets_server_take(&servers[s], message, length, reply, DROBULETS_LONGEST); /* S2, S3 */
     if (dropped(answer.refusal))
         return 0;
-    if (says(message, length, DROBULETS_COMMIT) || says(message, length, DROBULETS_DONE))
-        DEMAND(drobulets_server_run_all(&servers[s]).refusal == 0); /* S6 */
     disk_servers[s] = servers[s]; /* S4 */
+    drobulets_message said = drobulets_decode(reply, answer.length).message;
+    if (said.ran != 0) /* of a CommitOK alone */
+        printf("station %u: committed T%u, %u ran\n", (unsigned)s, (unsigned)said.t, (unsigned)said.ran);
     return answer.length;
 }
 
@@ -180,13 +181,13 @@ int main(void)
     carry(&second);
     DEMAND(second.phase == 3 && send(&second) == trunks);
     DEMAND(servers[0].log.count == 0 && learn_wanted(0) == UINT64_C(1) << 8);
-    printf("T1: committed at five stations, and waits for T8, which nobody has committed\n");
+    printf("T1: committed at five stations, where nothing ran: it waits for T8, which nobody has committed\n");
 
     DEMAND(drobulets_drive_recover(&rescue, 2, 8, exchange, 0) == 0); /* D3, D1: with the pieces that it was started with */
     carry(&rescue);
+    printf("T8: coordinator 2 recovers it at ballot %u; the Commit reaches stations 0 and 3\n", (unsigned)rescue.ballot);
     trunks = AT(0) | AT(3);
     DEMAND(rescue.phase == 3 && send(&rescue) == trunks);
-    printf("T8: coordinator 2 recovers it at ballot %u; the Commit reaches stations 0 and 3\n", (unsigned)rescue.ballot);
 
     first = disk_drives[0]; /* D2: the drive as it was when it last sent anything */
     trunks = AT(1) | AT(2) | AT(4);
@@ -198,30 +199,30 @@ int main(void)
     DEMAND(first.phase == 3 && send(&first) == trunks);
 
     memset(&servers[2], 0xFF, sizeof servers[2]);
-    servers[2] = disk_servers[2]; /* S4: it has forgotten nothing that it answered */
-    DEMAND(drobulets_server_run_all(&servers[2]).refusal == 0); /* S6 */
+    servers[2] = disk_servers[2]; /* S4: it has forgotten nothing that it answered or ran */
+    drobulets_counted left = drobulets_server_run_all(&servers[2]); /* S6 */
+    DEMAND(left.refusal == 0 && left.many == 0);
     printf("station 2 was without power, and is back from its disk\n");
 
+    printf("station 5 is reached, and learns of T8 from another\n");
     trunks = ALL;
     DEMAND(send(&second) == ALL); /* D8 */
     DEMAND(servers[5].log.count == 0 && learn_wanted(5) == 0);
     DEMAND(send(&first) == ALL); /* D8: the memory of both drives is free now */
-    printf("station 5 is reached, and learns of T8 from another\n");
 
     drobulets_reading oil = drobulets_server_counter(&servers[0], OIL);
     DEMAND(oil.value == 2000000000 && oil.kept && drobulets_server_result(&servers[0], 1, 1).kept);
     printf("T1: its oil did not fit: shard 0 shows %s%d ml until the tank is read\n", bound(oil), (int)oil.value);
+    printf("T9: coordinator 1 puts what the tank holds, and the oil is counted again\n");
     DEMAND(drobulets_drive_start(&second, 1, 9, tank) == 0); /* D3 */
     carry(&second);
     DEMAND(second.phase == 3 && send(&second) == (AT(0) | AT(1) | AT(2)));
-    printf("T9: coordinator 1 puts what the tank holds, and the oil is counted again\n");
 
     for (uint32_t s = 0; s < STATIONS; s++) {
         drobulets_message fetch = {.code = DROBULETS_FETCH, .t = 1};
         uint8_t question[DROBULETS_LONGEST], answer[DROBULETS_LONGEST];
         uint32_t length = drobulets_encode(&fetch, question, sizeof question).length;
-        uint32_t answered = ask(s, question, length, answer); /* S8 */
-        DEMAND(answered != 0 && says(answer, answered, DROBULETS_RESULTS));
+        DEMAND(says(answer, ask(s, question, length, answer), DROBULETS_RESULTS)); /* S8 */
         show(s);
     }
     return 0;

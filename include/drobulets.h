@@ -23,8 +23,8 @@
  * The version, as a number, major * 10000 + minor * 100 + patch, and as a text. Before 1.0 a step of the minor number asks something of a host: CHANGELOG.md
  * says what. A state that was stored under another minor number is not to be lent.
  */
-#define DROBULETS_VERSION 200
-#define DROBULETS_VERSION_TEXT "0.2.0"
+#define DROBULETS_VERSION 300
+#define DROBULETS_VERSION_TEXT "0.3.0"
 
 #ifdef __cplusplus
 extern "C" {
@@ -152,6 +152,7 @@ typedef struct drobulets_message {
     drobulets_maybe_word arrival;
     drobulets_maybe_vote accepted;
     drobulets_values values;
+    uint32_t ran; /* of a CommitOK: how many numbers ran in all as the Commit or Done was taken */
 } drobulets_message;
 
 /* ---- states, lent by the host. Keep one as it is between two calls; write it with one of the functions alone. */
@@ -268,13 +269,20 @@ typedef struct drobulets_decoded {
 /* Puts a fresh server `id` into the lent place, whatever stands there. Refuses 1. */
 uint32_t drobulets_server_fresh(drobulets_server *server, uint32_t id);
 
-/* Takes a message and writes the reply to the front of the output; no byte behind the reply is touched. */
+/*
+ * Takes a message and writes the reply to the front of the output; no byte behind the reply is touched.
+ * A Commit and a Done run by themselves: what is said is committed, then runs happen until one runs nothing, and the CommitOK has in `ran` how many numbers
+ * ran in all. A repeat with the same set changes nothing by itself, and what is ready still runs. On a refusal nothing runs.
+ */
 drobulets_answer drobulets_server_take(drobulets_server *server, const uint8_t *input, size_t input_length, uint8_t *output, size_t output_length);
 
-/* Runs the lowest ready number with its group, or nothing if none is ready. Refuses 13. */
+/*
+ * Runs the lowest ready number with its group, or nothing if none is ready. Refuses 13. This and the next are for start-up: in a server that was made by
+ * drobulets_server_fresh and took every message by drobulets_server_take, nothing is ready after any call, and both give 0.
+ */
 drobulets_counted drobulets_server_run(drobulets_server *server);
 
-/* Runs until nothing is ready. Refuses 13. */
+/* Runs until nothing is ready, and tells how many numbers ran in all. Refuses 13. */
 drobulets_counted drobulets_server_run_all(drobulets_server *server);
 
 /* The numbers to inquire for. Refuses 13. */
@@ -347,6 +355,7 @@ DROBULETS_AT(drobulets_message, word, 184);
 DROBULETS_AT(drobulets_message, arrival, 192);
 DROBULETS_AT(drobulets_message, accepted, 208);
 DROBULETS_AT(drobulets_message, values, 248);
+DROBULETS_AT(drobulets_message, ran, 316);
 
 DROBULETS_SIZE(drobulets_record, 304);
 DROBULETS_AT(drobulets_record, promise, 132);

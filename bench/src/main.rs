@@ -8,7 +8,7 @@ mod whole;
 use engine::archive::Archive;
 use engine::{layout, Lent, Plain, LONGEST};
 use meter::{head, line, Cost, Meter};
-use states::{awaiting, chain, cycle, steps, Step};
+use states::{awaiting, chain, commits, cycle, last_commits, steps, Step};
 use std::any::type_name;
 use std::ffi::c_int;
 use std::hint::black_box;
@@ -26,11 +26,16 @@ fn main() {
     codec::measure(meter);
     head("A server's step", "Rust");
     for (held, many) in [(1, 2), (8, 2), (64, 2), (64, 8)] {
-        for step in &steps(held, many) {
-            let name = format!("{}, {held} held, {many} pieces each", step.name);
-            let goal = Some(if held == 64 { 1.1 } else { 1.4 });
-            compare(meter, &name, goal, || take(meter, Archive, &name, step), || take(meter, Plain, &name, step));
-        }
+        let goal = if held == 64 { 1.1 } else { 1.4 };
+        steps(held, many).iter().for_each(|step| stepped(meter, &step.name, Some(goal), step));
+    }
+    head("Commit and run in one call", "Rust");
+    for (held, many) in [(1, 2), (8, 2), (64, 2), (64, 8)] {
+        let goal = if held == 64 { 1.1 } else { 1.4 };
+        commits(held, many).iter().for_each(|step| stepped(meter, &format!("Commit that {}", step.name), Some(goal), step));
+    }
+    for (step, goal) in last_commits().iter().zip([Some(0.5), None]) {
+        stepped(meter, &format!("Commit that {}", step.name), goal, step);
     }
     head("Running", "Rust");
     for (name, goal, before, all) in
@@ -70,6 +75,11 @@ fn compare<T: PartialEq>(
         (ours, theirs) = (ours.least(library().0), theirs.least(rust().0));
     }
     line(name, ours, theirs, goal);
+}
+
+/// A line for a message.
+fn stepped(meter: &Meter, name: &str, goal: Option<f64>, step: &Step) {
+    compare(meter, name, goal, || take(meter, Archive, name, step), || take(meter, Plain, name, step));
 }
 
 /// The cost of a call on a lent server, and the server after.
@@ -114,12 +124,14 @@ fn stacks() {
         let of = |what| unsafe { stack_used(what, &mut server.clone(), input.as_ptr(), input.len()) };
         of(what) - of(0)
     };
-    let taken = steps(64, 8).into_iter().chain(steps(64, 2));
-    let take = taken.map(|step| used(1, &step.before, &step.message)).max();
+    let stepped = steps(64, 8).into_iter().chain(steps(64, 2));
+    let take = stepped.map(|step| used(1, &step.before, &step.message)).max();
+    let committed = commits(64, 8).into_iter().chain(commits(64, 2)).chain(last_commits());
+    let commit = committed.map(|step| used(1, &step.before, &step.message)).max();
     let ran = |what| [cycle(), chain()].iter().map(|server| used(what, server, &[])).max();
     let size = size_of::<layout::Server>();
     println!("\n### Stack\n\n| | bytes | times the server's {size} | goal, bytes |\n|---|---|---|---|");
-    for (name, bytes) in [("take", take), ("run", ran(2)), ("run until 0", ran(3))] {
+    for (name, bytes) in [("take", take), ("take of a Commit", commit), ("run", ran(2)), ("run until 0", ran(3))] {
         let bytes = bytes.unwrap_or(0);
         let verdict = if bytes < STACK_GOAL { "met" } else { "**missed**" };
         println!("| {name} | {bytes} | {:.2} | {STACK_GOAL}: {verdict} |", bytes as f64 / size as f64);

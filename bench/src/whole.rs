@@ -1,4 +1,4 @@
-//! Whole transactions in memory: a drive and the six servers of its two shards, from the start to the run.
+//! Whole transactions in memory: a drive and the six servers of its two shards, from the start to the Commit, which runs.
 
 use crate::states::pieces;
 use engine::{Engine, LONGEST};
@@ -49,11 +49,10 @@ fn transaction<E: Engine>(engine: &E, servers: &mut [E::Server], t: u32, upper: 
             let length = engine.take(server, &message[..due.length], &mut answer).expect("an answer");
             if phase == 1 {
                 engine.reply(&mut drive, &answer[..length]).expect("a good reply");
+            } else {
+                assert_eq!(answer[12..length], [0, 0, 0, 1], "a CommitOK at whose Commit one number ran");
             }
         }
-    }
-    for server in &mut servers[first..first + 6] {
-        assert_eq!(engine.run(server), Ok(1));
     }
 }
 

@@ -1,4 +1,4 @@
-/* Cases A, B, D and L of document 01, and refusals that change nothing, through the exported functions. */
+/* Cases A, B, D, E, F and L, and refusals that change nothing, through the exported functions. */
 #include "check.h"
 
 static const drobulets_piece PUT_5 = {0, 3, DROBULETS_PUT, 5}, ADD_2 = {0, 3, DROBULETS_ADD, 2};
@@ -38,19 +38,25 @@ static drobulets_message commit(uint32_t t, drobulets_piece first, drobulets_pie
     return m;
 }
 
-/* D: two that depend on each other run as one group, in rising number. */
-static void case_d(void)
+/* Whether a Commit is answered by CommitOK with this count. */
+static int runs(drobulets_server *server, drobulets_message message, uint32_t many)
+{
+    drobulets_message reply = asked(server, message);
+    return reply.code == DROBULETS_COMMIT_OK && reply.t == message.t && reply.server == server->id && reply.ran == many;
+}
+
+/* D: two that depend on each other run as one group, in rising number, with the second Commit. E: the first alone runs nothing. */
+static void cases_d_and_e(void)
 {
     drobulets_server *server = lent_server(0);
     drobulets_piece put = {1, 0, DROBULETS_PUT, 5}, add = {1, 0, DROBULETS_ADD, 2};
     drobulets_set after_1 = {0, 2, 0, 0}, after_8 = {256, 0, 0, 0};
-    CHECK(asked(server, commit(8, PUT_5, put, after_1)).code == DROBULETS_COMMIT_OK);
+    CHECK(runs(server, commit(8, PUT_5, put, after_1), 0) && drobulets_server_log(server, 0).some == 0);
     drobulets_wants wants = drobulets_server_wanted(server);
     CHECK(wants.refusal == 0 && same_set(wants.set, after_1));
-    CHECK(asked(server, commit(1, ADD_2, add, after_8)).code == DROBULETS_COMMIT_OK);
-
+    CHECK(runs(server, commit(1, ADD_2, add, after_8), 2));
     drobulets_counted counted = drobulets_server_run(server);
-    CHECK(counted.refusal == 0 && counted.many == 2);
+    CHECK(counted.refusal == 0 && counted.many == 0);
     CHECK(drobulets_server_log(server, 0).number == 1 && drobulets_server_log(server, 1).number == 8);
     CHECK(drobulets_server_log(server, 2).some == 0 && drobulets_server_log(server, 64).some == 0);
     drobulets_reading counter = drobulets_server_counter(server, 3);
@@ -61,6 +67,19 @@ static void case_d(void)
     CHECK(drobulets_server_result(server, 1, 1).some == 0 && drobulets_server_result(server, 2, 0).some == 0 && drobulets_server_result(server, 64, 0).some == 0);
     CHECK(drobulets_server_run_all(server).many == 0);
     free(server);
+}
+
+/* F: T1 without dependencies, T2 after T1. The other way round both run with the second Commit. */
+static void case_f(void)
+{
+    drobulets_server *forth = lent_server(0), *back = lent_server(0);
+    drobulets_piece put = {0, 4, DROBULETS_PUT, 5}, add = {0, 4, DROBULETS_ADD, 2};
+    drobulets_message first = commit(1, PUT_5, put, (drobulets_set){0, 0, 0, 0}), second = commit(2, ADD_2, add, (drobulets_set){2, 0, 0, 0});
+    CHECK(runs(forth, first, 1) && runs(forth, second, 1));
+    CHECK(runs(back, second, 0) && runs(back, first, 2));
+    CHECK(same_server(forth, back) && forth->log.count == 2 && forth->log.list[0] == 1 && forth->log.list[1] == 2);
+    free(forth);
+    free(back);
 }
 
 /* L: the answers 0, 0, `last` to a Start of T8 on shard 0. */
@@ -147,7 +166,8 @@ static void refused_events(void)
 int main(void)
 {
     cases_a_and_b();
-    case_d();
+    cases_d_and_e();
+    case_f();
     cases_l();
     refused_takes();
     refused_events();

@@ -34,6 +34,17 @@ static inline drobulets_server *lent_server(uint32_t id)
     return server;
 }
 
+/* Makes a server that began fresh one where nothing that is committed has run. No call leaves such a one behind: a Commit runs. */
+static inline void unrun(drobulets_server *server)
+{
+    for (uint32_t t = 0; t < DROBULETS_NUMBERS; t++) {
+        server->records[t].ran = 0;
+        memset(&server->records[t].values, 0, sizeof server->records[t].values);
+    }
+    memset(&server->counters, 0, sizeof server->counters);
+    memset(&server->log, 0, sizeof server->log);
+}
+
 static inline drobulets_pieces pieces_of(const drobulets_piece *list, uint32_t count)
 {
     drobulets_pieces pieces;
@@ -104,7 +115,8 @@ static inline int same_message(drobulets_message a, drobulets_message b)
 {
     return a.code == b.code && a.t == b.t && a.server == b.server && a.ballot == b.ballot && a.promise == b.promise
         && SAME_BYTES(a.pieces, b.pieces) && same_set(a.set, b.set) && a.word == b.word
-        && same_word(a.arrival, b.arrival) && same_vote(a.accepted, b.accepted) && SAME_BYTES(a.values, b.values);
+        && same_word(a.arrival, b.arrival) && same_vote(a.accepted, b.accepted) && SAME_BYTES(a.values, b.values)
+        && a.ran == b.ran;
 }
 
 static inline int same_record(const drobulets_record *a, const drobulets_record *b)

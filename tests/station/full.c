@@ -21,8 +21,8 @@ static drobulets_reading run(drobulets_server *server, uint32_t kind, int32_t op
     drobulets_piece piece = {0, KEY, kind, operand};
     drobulets_message commit = message_of(DROBULETS_COMMIT, t, 0);
     commit.pieces = pieces_of(&piece, 1);
-    CHECK(asked(server, commit).code == DROBULETS_COMMIT_OK);
-    CHECK(drobulets_server_run_all(server).many == 1);
+    drobulets_message reply = asked(server, commit);
+    CHECK(reply.code == DROBULETS_COMMIT_OK && reply.ran == 1);
     drobulets_reading result = drobulets_server_result(server, t, 0);
     drobulets_message fetched = asked(server, message_of(DROBULETS_FETCH, t, 0));
     CHECK(fetched.code == DROBULETS_RESULTS && fetched.values.count == 1);
@@ -94,8 +94,8 @@ static void each_counter_has_its_mark(void)
         drobulets_piece pieces[2] = {{0, full, DROBULETS_ADD, TOP}, {0, full + 1, DROBULETS_ADD, -1}};
         drobulets_message commit = message_of(DROBULETS_COMMIT, 63, 0);
         commit.pieces = pieces_of(pieces, full + 1 < DROBULETS_KEYS ? 2 : 1);
-        CHECK(asked(server, commit).code == DROBULETS_COMMIT_OK);
-        CHECK(drobulets_server_run(server).many == 1);
+        drobulets_message reply = asked(server, commit);
+        CHECK(reply.code == DROBULETS_COMMIT_OK && reply.ran == 1);
         for (uint32_t key = 0; key < DROBULETS_KEYS; key++) {
             drobulets_reading held = {1, TOP - (int32_t)key - (key == full + 1), key == full};
             CHECK(same_reading(drobulets_server_counter(server, key), held));

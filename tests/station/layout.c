@@ -59,12 +59,11 @@ static void server_fields(void)
 
     drobulets_message commit = about_63(DROBULETS_COMMIT, 0);
     commit.set = (drobulets_set){0, 0, 0, 1};
-    asked(server, commit);
+    CHECK(asked(server, commit).ran == 0);
     CHECK(last->committed.some == 1 && same_set(last->committed.set, commit.set) && last->ran == 0);
     drobulets_message before = first;
     before.code = DROBULETS_COMMIT;
-    asked(server, before);
-    CHECK(drobulets_server_run_all(server).many == 2);
+    CHECK(asked(server, before).ran == 2);
     CHECK(server->log.count == 2 && server->log.list[0] == 0 && server->log.list[1] == 63);
     CHECK(last->ran == 1 && last->values.count == 6);
     for (uint32_t i = 2; i < 8; i++) {
@@ -76,8 +75,7 @@ static void server_fields(void)
     drobulets_message beyond = message_of(DROBULETS_COMMIT, 62, 0);
     clash = (drobulets_piece){3, 15, DROBULETS_ADD, INT32_MIN};
     beyond.pieces = pieces_of(&clash, 1);
-    asked(server, beyond);
-    CHECK(drobulets_server_run_all(server).many == 1 && server->log.count == 3 && server->log.list[2] == 62);
+    CHECK(asked(server, beyond).ran == 1 && server->log.count == 3 && server->log.list[2] == 62);
     CHECK(server->records[62].values.list[0].value == -7000007 && server->records[62].values.list[0].kept == 1);
     for (uint32_t key = 0; key < DROBULETS_KEYS; key++)
         CHECK(server->counters.list[key].full == (key == 15));
@@ -161,6 +159,13 @@ static void message_fields(void)
     written = drobulets_encode(&results, bytes, sizeof bytes);
     read = drobulets_decode(bytes, written.length);
     CHECK(written.length == 80 && same_message(read.message, results));
+
+    drobulets_message committed = message_of(DROBULETS_COMMIT_OK, 62, 0);
+    committed.server = 10;
+    committed.ran = 0xFEDCBA98u;
+    written = drobulets_encode(&committed, bytes, sizeof bytes);
+    read = drobulets_decode(bytes, written.length);
+    CHECK(written.length == 16 && word_at(bytes, 12) == 0xFEDCBA98u && same_message(read.message, committed));
 
     drobulets_message prepared = message_of(DROBULETS_PREPARE_OK, 62, 65535);
     prepared.server = 10;

@@ -67,6 +67,18 @@ static void measure(const char *name, void (*call)(void), size_t most)
     CHECK(used <= most && used <= DROBULETS_STACK);
 }
 
+/* Every number but 8 is committed, after 8: so the Commit of 8 runs them all. */
+static void commit_all_but_8(void)
+{
+    for (uint32_t t = 0; t < DROBULETS_NUMBERS; t++) {
+        drobulets_message later = message_of(DROBULETS_COMMIT, t, 0);
+        later.pieces = pieces;
+        later.set.w0 = 1u << 8;
+        if (t != 8)
+            CHECK(asked(server, later).ran == 0);
+    }
+}
+
 int main(void)
 {
     drobulets_piece put = {0, 3, DROBULETS_PUT, 5};
@@ -78,12 +90,16 @@ int main(void)
     length = bytes_of(message, input, sizeof input);
     printf("stack of each call, in bytes:\n");
     measure("fresh", fresh, MOST);
+    commit_all_but_8();
     measure("take", take, MOST_OF_A_STEP);
-    CHECK(server->records[8].committed.some == 1);
+    CHECK(server->records[8].committed.some == 1 && server->log.count == DROBULETS_NUMBERS);
     measure("wanted", wanted, MOST);
+    unrun(server);
     measure("run", run, MOST_OF_A_STEP);
-    CHECK(server->log.count == 1);
+    CHECK(server->log.count == 1 && server->log.list[0] == 8);
+    unrun(server);
     measure("run_all", run_all, MOST_OF_A_STEP);
+    CHECK(server->log.count == DROBULETS_NUMBERS);
     measure("counter", counter, MOST);
     measure("log", log_entry, MOST);
     measure("result", result, MOST);

@@ -69,15 +69,17 @@ class Leaving:
         """That a value at the end is what the contract says, by the law that is named for it where there is one."""
         if value == contract:
             return 'refl'
-        tests = [t for t in self.tests] if what == 'left' else []
-        law = f'{self.law}-{what}' + (f'-{way}' if way and what == 'left' else '')
+        base = f'{self.law}-{what}'
+        tests = self.tests if what == 'left' else [t for t in self.tests if self.find_law(f'{base}-{t[0]}')]
+        law = f'{base}-{way}' if way and (what == 'left' or self.find_law(f'{base}-{way}')) else base
         lemma = f'{what}-end{"-" + way if way else ""}'
         found = self.find_law(law)
         was = found and asks_sound(found)
-        asks = ['Sound s'] * self.lent + [f'{term} ≡ {b}' for _, _, b, term in tests]
+        told = self.asked_typed(found) if found else []
+        asks = ['Sound s'] * self.lent + [kind for _, kind in told] + [f'{term} ≡ {b}' for _, _, b, term in tests]
         said = '' if found else ' '.join([contract] + self.definitions)
         unfolds = self.defined_names + sorted({n for n in re.findall(r"[\w′-]+", said) if n in self.cited and unfoldable(self.cited[n], n)})
-        names = [f't{i}' for i in range(len(tests))]
+        names = [f'is{i}' for i in range(len(told))] + [f't{i}' for i in range(len(tests))]
         self.definitions += [f'{lemma} : {self.bound()} → ' + ''.join(f'{self.inner(a)} → ' for a in asks) + f'{self.inner(value)} ≡ {self.inner(contract)}',
                              f'unfolding {" ".join(unfolds)}', f'{lemma} {self.args(True)} {"was " * self.lent}{" ".join(names)} = ' + (f'{law} {self.args(True)}{" was" if was else ""} {" ".join(names)}' if found else 'refl'), '']
-        return f'({lemma} {self.args()} {"was " * self.lent}{" ".join(known for _, known, _, _ in tests)})'
+        return f'({lemma} {self.args()} {"was " * self.lent}{" ".join([fact for fact, _ in told] + [known for _, known, _, _ in tests])})'

@@ -10,6 +10,11 @@ def asks_sound(law):
     return bool(re.search(r'\bIs\b|\bSound\b', law[1]))
 
 
+def asks_typed(law):
+    """The structs of which a law asks that what a call told is one of its type, by their names."""
+    return re.findall(r'\bTyped(\w+)\b', law[1])
+
+
 class Naming:
     """The part of a walk that speaks of names."""
 
@@ -101,6 +106,11 @@ class Naming:
         lemma, was = f'{what}-{self.tag()}', ' was' * asks_sound(found)
         self.definitions += [f'{lemma} : {self.bound()} → {"Sound s → " * self.lent}{self.inner(statement)}', f'unfolding {" ".join(self.defined_names)}', f'{lemma} {self.args(True)}{" was" * self.lent} = {name} {self.args(True)}{was}', '']
         return f'({lemma} {self.args()}{" was" * self.lent})'
+
+    def asked_typed(self, law):
+        """For each struct that a law asks for as `TypedS`: the fact that the first call that told an S told one of its type, and what the fact says."""
+        facts = [(name, kind) for name, kind in self.known] + [(term, kind) for _, kind, term in self.learned]
+        return [next(fact for fact in facts if fact[1].startswith(f'Is R{struct}.the-row ')) for struct in asks_typed(law)]
 
     def requires(self, given=None):
         return self.contract.term(self.contract.requires, given or self.given)

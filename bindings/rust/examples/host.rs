@@ -25,7 +25,7 @@ struct Host {
 // ---- the duties
 
 impl Host {
-    /// A message reaches a server. Gives its reply, which goes to whoever asked (S5).
+    /// A message reaches a server, and the yard is told what it ran. Gives its reply, which goes to whoever asked (S5).
     fn ask(&mut self, s: u32, message: &[u8]) -> Result<Option<Vec<u8>>, Refusal> {
         if !self.trunks.contains(&s) {
             return Ok(None);
@@ -35,10 +35,10 @@ impl Host {
             Ok(reply) => reply, // S2, S3
             Err(refusal) => return dropped(refusal).map(|()| None),
         };
-        if let Ok(Message::Commit { .. } | Message::Done { .. }) = Message::decode(message) {
-            server.run_all()?; // S6
-        }
         self.disk_servers.insert(s, server.to_bytes()); // S4
+        if let Message::CommitOk { t, ran: ran @ 1.., .. } = Message::decode(&reply)? {
+            println!("station {s}: committed T{t}, {ran} ran");
+        }
         Ok(Some(reply))
     }
 
@@ -150,14 +150,14 @@ fn main() -> Result<(), Refusal> {
     assert_eq!(host.send(&mut second)?, host.trunks);
     assert_eq!(host.servers[0].log(), []);
     assert_eq!(host.learn_wanted(0)?, [8]);
-    println!("T1: committed at five stations, and waits for T8, which nobody has committed");
+    println!("T1: committed at five stations, where nothing ran: it waits for T8, which nobody has committed");
 
     let mut rescue = Drive::recover(2, 8, &exchange, 0)?; // D3, D1: with the pieces that it was started with
     host.carry(&mut rescue)?;
+    println!("T8: coordinator 2 recovers it at ballot {}; the Commit reaches stations 0 and 3", rescue.ballot());
     host.trunks = vec![0, 3];
     assert_eq!(rescue.phase(), Phase::Commit);
     assert_eq!(host.send(&mut rescue)?, host.trunks);
-    println!("T8: coordinator 2 recovers it at ballot {}; the Commit reaches stations 0 and 3", rescue.ballot());
 
     let mut first = Drive::from_bytes(&host.disk_drives[&0])?; // D2: the drive as it was when it last sent anything
     host.trunks = vec![1, 2, 4];
@@ -169,25 +169,25 @@ fn main() -> Result<(), Refusal> {
     assert_eq!(first.phase(), Phase::Commit);
     assert_eq!(host.send(&mut first)?, host.trunks);
 
-    host.servers[2] = Server::from_bytes(&host.disk_servers[&2])?; // S4: it has forgotten nothing that it answered
-    host.servers[2].run_all()?; // S6
+    host.servers[2] = Server::from_bytes(&host.disk_servers[&2])?; // S4: it has forgotten nothing that it answered or ran
+    assert_eq!(host.servers[2].run_all()?, 0); // S6
     println!("station 2 was without power, and is back from its disk");
 
+    println!("station 5 is reached, and learns of T8 from another");
     host.trunks = ALL.to_vec();
     assert_eq!(host.send(&mut second)?, ALL); // D8
     assert_eq!(host.servers[5].log(), []);
     assert_eq!(host.learn_wanted(5)?, []);
     assert_eq!(host.send(&mut first)?, ALL); // D8: both drives are done
-    println!("station 5 is reached, and learns of T8 from another");
 
     let oil = Value { value: 2_000_000_000, kept: true };
     assert_eq!((host.servers[0].counter(OIL), host.servers[0].result(1, 1)), (Some(oil), Some(oil)));
     println!("T1: its oil did not fit: shard 0 shows {} ml until the tank is read", figure(oil));
+    println!("T9: coordinator 1 puts what the tank holds, and the oil is counted again");
     let mut third = Drive::start(1, 9, &tank)?; // D3
     host.carry(&mut third)?;
     assert_eq!(third.phase(), Phase::Commit);
     assert_eq!(host.send(&mut third)?, [0, 1, 2]);
-    println!("T9: coordinator 1 puts what the tank holds, and the oil is counted again");
 
     for s in ALL {
         let fetched = host.ask(s, &Message::Fetch { t: 1 }.encode()?)?.expect("an answer"); // S8

@@ -6,7 +6,7 @@
 //!
 //! | Here | Is |
 //! |---|---|
-//! | [`Server`] | a server of one shard: it takes messages, answers them and runs what is committed |
+//! | [`Server`] | a server of one shard: it takes messages, runs what is committed and answers |
 //! | [`Drive`] | what carries one transaction for one coordinator |
 //! | [`Message`] | what travels between them, and its bytes |
 //! | [`Refusal`] | why a call was refused; nothing was changed then |
@@ -32,9 +32,8 @@
 //!     }
 //!     let commit = drive.due()?;
 //!     for server in commit.servers {
-//!         let server = &mut servers[server as usize];
-//!         assert_eq!(Message::decode(&server.take(&commit.bytes)?)?, Message::CommitOk { t: 8, server: server.id() });
-//!         server.run_all()?;
+//!         let reply = servers[server as usize].take(&commit.bytes)?; // committed and run
+//!         assert_eq!(Message::decode(&reply)?, Message::CommitOk { t: 8, server, ran: 1 });
 //!     }
 //!     for server in &servers {
 //!         let value = if server.shard() == 0 { -1 } else { 1 };

@@ -25,7 +25,7 @@ pub enum Message {
     PreAccept { t: u32, ballot: u32, pieces: Vec<Piece> },
     /// 1, to a server: accept this set.
     Accept { t: u32, ballot: u32, pieces: Vec<Piece>, set: Set },
-    /// 2, to a server: T is committed with this set.
+    /// 2, to a server: T is committed with this set; run what is ready.
     Commit { t: u32, pieces: Vec<Piece>, set: Set },
     /// 3, to a server: promise this ballot, and say what arrived and what is accepted.
     Prepare { t: u32, ballot: u32, pieces: Vec<Piece> },
@@ -37,11 +37,11 @@ pub enum Message {
     PreAcceptOk { t: u32, server: u32, ballot: u32, word: u64 },
     /// 17, to a drive: accepted.
     AcceptOk { t: u32, server: u32, ballot: u32 },
-    /// 18, to the host of a drive: committed.
-    CommitOk { t: u32, server: u32 },
+    /// 18, to the host of a drive or to who gave a Done: T is committed here, and so many numbers ran then.
+    CommitOk { t: u32, server: u32, ran: u32 },
     /// 19, to a drive: promised; what arrived and what is accepted.
     PrepareOk { t: u32, server: u32, ballot: u32, arrival: Option<u64>, accepted: Option<Vote> },
-    /// 20, to a drive or a server: T is committed with this set.
+    /// 20, to a drive or a server: T is committed with this set. A server takes it as a Commit.
     Done { t: u32, pieces: Vec<Piece>, set: Set },
     /// 21, to a drive: a higher ballot is promised than was asked.
     Behind { t: u32, server: u32, asked: u32, promise: u32 },
@@ -151,7 +151,8 @@ impl From<&Message> for layout::Message {
             Message::Inquire { t } | Message::Fetch { t } => layout::Message { t, ..blank },
             Message::PreAcceptOk { t, server, ballot, word } => layout::Message { t, server, ballot, word, ..blank },
             Message::AcceptOk { t, server, ballot } => layout::Message { t, server, ballot, ..blank },
-            Message::CommitOk { t, server } | Message::NotYet { t, server } => layout::Message { t, server, ..blank },
+            Message::CommitOk { t, server, ran } => layout::Message { t, server, ran, ..blank },
+            Message::NotYet { t, server } => layout::Message { t, server, ..blank },
             Message::PrepareOk { t, server, ballot, arrival, accepted } => {
                 let (arrival, accepted) = (arrival.into(), accepted.into());
                 layout::Message { t, server, ballot, arrival, accepted, ..blank }
@@ -171,7 +172,7 @@ impl TryFrom<&layout::Message> for Message {
     type Error = Refusal;
 
     fn try_from(flat: &layout::Message) -> Result<Message, Refusal> {
-        let layout::Message { code, t, server, ballot, promise, set, word, .. } = *flat;
+        let layout::Message { code, t, server, ballot, promise, set, word, ran, .. } = *flat;
         let pieces = || few(&flat.pieces.list, flat.pieces.count);
         Ok(match code {
             0 => Message::PreAccept { t, ballot, pieces: pieces()? },
@@ -182,7 +183,7 @@ impl TryFrom<&layout::Message> for Message {
             5 => Message::Fetch { t },
             16 => Message::PreAcceptOk { t, server, ballot, word },
             17 => Message::AcceptOk { t, server, ballot },
-            18 => Message::CommitOk { t, server },
+            18 => Message::CommitOk { t, server, ran },
             19 => {
                 let (arrival, accepted) = (flat.arrival.into(), flat.accepted.into());
                 Message::PrepareOk { t, server, ballot, arrival, accepted }

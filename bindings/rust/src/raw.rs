@@ -46,7 +46,7 @@ pub fn server_fresh(server: &mut Server, id: u32) -> u32 {
     unsafe { drobulets_server_fresh(server, id) }
 }
 
-/// Takes a message and writes the reply to the front of the output.
+/// Takes a message and writes the reply to the front of the output. A Commit and a Done run until nothing is ready.
 #[inline]
 pub fn server_take(server: &mut Server, input: &[u8], output: &mut [u8]) -> Answer {
     let (from, to) = (input.as_ptr(), output.as_mut_ptr());
@@ -54,14 +54,14 @@ pub fn server_take(server: &mut Server, input: &[u8], output: &mut [u8]) -> Answ
     unsafe { drobulets_server_take(server, from, input.len(), to, output.len()) }
 }
 
-/// Runs the lowest ready number with its group. Refuses 13.
+/// Runs the lowest ready number with its group: at start-up. Refuses 13.
 #[inline]
 pub fn server_run(server: &mut Server) -> Counted {
     // SAFETY: the server is lent for the call alone, and the function is total.
     unsafe { drobulets_server_run(server) }
 }
 
-/// Runs until nothing is ready. Refuses 13.
+/// Runs until nothing is ready: at start-up. Refuses 13.
 #[inline]
 pub fn server_run_all(server: &mut Server) -> Counted {
     // SAFETY: the server is lent for the call alone, and the function is total.

@@ -7,7 +7,8 @@ use std::fmt;
 
 /// A server of one shard. It is always in form, so none of its methods refuses 13.
 ///
-/// A host persists it ([`to_bytes`](Server::to_bytes)) after a call that changed it and before the answer leaves the station.
+/// A host persists it ([`to_bytes`](Server::to_bytes)) after a call that changed it and before the answer leaves the station: what a
+/// Commit ran is then on disk with it.
 #[derive(Clone, PartialEq, Eq)]
 pub struct Server {
     // Boxed, since 19,856 bytes are much to move.
@@ -27,6 +28,24 @@ impl Server {
     }
 
     /// Takes a message's bytes and gives those of the reply, which goes to whoever asked, once this server is persisted.
+    ///
+    /// A Commit and a Done run by themselves, until nothing is ready: their CommitOK has the count of what ran. On a refusal nothing
+    /// runs. Here T1 comes after T8, and waits for it:
+    ///
+    /// ```
+    /// use drobulets::{Message, Piece, Server, Set};
+    ///
+    /// let mut server = Server::fresh(0)?;
+    /// let after_8 = Set::from([1 << 8, 0, 0, 0]);
+    /// let later = Message::Commit { t: 1, pieces: vec![Piece::add(0, 3, 2)], set: after_8 }.encode()?;
+    /// let earlier = Message::Commit { t: 8, pieces: vec![Piece::put(0, 3, 5)], set: Set::EMPTY }.encode()?;
+    /// let waits = server.take(&later)?;
+    /// assert_eq!(Message::decode(&waits)?, Message::CommitOk { t: 1, server: 0, ran: 0 });
+    /// let both = server.take(&earlier)?;
+    /// assert_eq!(Message::decode(&both)?, Message::CommitOk { t: 8, server: 0, ran: 2 });
+    /// assert_eq!(server.log(), [8, 1]);
+    /// # Ok::<(), drobulets::Refusal>(())
+    /// ```
     pub fn take(&mut self, message: &[u8]) -> Result<Vec<u8>, Refusal> {
         let mut reply = [0; LONGEST];
         let length = self.take_into(message, &mut reply)?;
@@ -45,13 +64,16 @@ impl Server {
         self.take(&message.encode()?).and_then(|reply| Message::decode(&reply))
     }
 
-    /// Runs the lowest ready number with its group. Gives how many ran, 0 if none is ready.
+    /// Runs the lowest ready number with its group. Gives how many ran, 0 if none is ready: see [`run_all`](Server::run_all).
     pub fn run(&mut self) -> Result<u32, Refusal> {
         let counted = raw::server_run(&mut self.state);
         Refusal::or(counted.refusal, counted.many)
     }
 
-    /// Runs until nothing is ready: after a Commit or a Done was taken, and at start-up. Gives how many ran.
+    /// Runs until nothing is ready: at start-up. Gives how many ran in all.
+    ///
+    /// A server that was made [fresh](Server::fresh) and took every message by [`take`](Server::take) has nothing ready after any call,
+    /// so that this gives 0. One whose bytes came from elsewhere may have.
     pub fn run_all(&mut self) -> Result<u32, Refusal> {
         let counted = raw::server_run_all(&mut self.state);
         Refusal::or(counted.refusal, counted.many)

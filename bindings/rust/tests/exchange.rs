@@ -24,15 +24,13 @@ fn send(drive: &mut Drive, servers: &mut [Server], reached: &[u32]) {
     }
 }
 
-/// The Commit of a decided drive reaches those named, which run it.
-fn commit(drive: &Drive, servers: &mut [Server], reached: &[u32]) {
+/// The Commit of a decided drive reaches those named, and so many numbers run at each.
+fn commit(drive: &Drive, servers: &mut [Server], reached: &[u32], ran: u32) {
     assert_eq!(drive.phase(), Phase::Commit);
     let due = drive.due().unwrap();
     for id in reached {
-        let server = &mut servers[*id as usize];
-        let reply = Message::decode(&server.take(&due.bytes).unwrap());
-        assert_eq!(reply, Ok(Message::CommitOk { t: drive.t(), server: *id }));
-        server.run_all().unwrap();
+        let reply = Message::decode(&servers[*id as usize].take(&due.bytes).unwrap());
+        assert_eq!(reply, Ok(Message::CommitOk { t: drive.t(), server: *id, ran }));
     }
 }
 
@@ -62,7 +60,7 @@ fn an_exchange_decides_at_once_and_runs_at_six_servers() {
     send(&mut drive, &mut servers, &ALL);
     assert_eq!((drive.phase(), drive.chosen()), (Phase::Commit, Some(Set::EMPTY)));
     assert!(servers.iter().all(|server| !server.has_run(8) && server.results(8).is_none()));
-    commit(&drive, &mut servers, &ALL);
+    commit(&drive, &mut servers, &ALL, 1);
     assert_eq!(spares(&servers), [-5, 5]);
     assert_eq!(servers[4].results(8), Some(vec![Value { value: 5, kept: false }]));
     assert_eq!((servers[4].result(8, 0), servers[4].result(8, 1)), (Some(Value { value: 5, kept: false }), None));
@@ -81,7 +79,7 @@ fn two_of_three_are_enough_to_move_on() {
     drive.move_on().unwrap();
     assert_eq!((drive.phase(), drive.chosen()), (Phase::Accept, Some(Set::EMPTY)));
     send(&mut drive, &mut servers, &[1, 2, 3, 5]);
-    commit(&drive, &mut servers, &ALL);
+    commit(&drive, &mut servers, &ALL, 1);
     assert_eq!(spares(&servers), [-5, 5]);
 }
 
@@ -100,7 +98,7 @@ fn a_half_delivered_exchange_is_recovered() {
     assert_eq!(later.phase(), Phase::Accept);
     assert_eq!(later.chosen(), Some(Set::from([256, 256, 0, 0])));
     send(&mut later, &mut servers, &ALL);
-    commit(&later, &mut servers, &ALL);
+    commit(&later, &mut servers, &ALL, 0);
     assert_eq!(spares(&servers), [0, 0]);
     let wanted = servers[0].wanted().unwrap();
     assert_eq!(wanted.numbers().collect::<Vec<_>>(), [(0, 8), (1, 8)]);
@@ -115,13 +113,14 @@ fn a_half_delivered_exchange_is_recovered() {
     send(&mut lost, &mut servers, &[0, 1, 2]); // the origin is back with its old ballot
     assert_eq!((lost.phase(), lost.seen()), (Phase::Accept, 9));
     send(&mut recovery, &mut servers, &[0, 1, 3, 4]);
-    commit(&recovery, &mut servers, &[0, 2, 3, 4]);
+    commit(&recovery, &mut servers, &[0, 2, 3, 4], 2);
+    commit(&recovery, &mut servers, &[0, 2, 3, 4], 0); // a repeat
 
     let done = servers[0].take_message(&Message::Inquire { t: 8 }).unwrap();
     assert_eq!(done, Message::Done { t: 8, pieces: MOVE.to_vec(), set: Set::EMPTY });
     for late in [1, 5] {
-        servers[late].take_message(&done).unwrap();
-        assert_eq!(servers[late].run_all(), Ok(2));
+        let reply = servers[late].take_message(&done);
+        assert_eq!(reply, Ok(Message::CommitOk { t: 8, server: late as u32, ran: 2 }));
     }
     assert_eq!(spares(&servers), [-6, 5]);
     assert_eq!(servers[5].log(), [8, 1]);
@@ -131,6 +130,7 @@ fn a_half_delivered_exchange_is_recovered() {
     assert_eq!((lost.ballot(), lost.phase()), (16, Phase::Prepare));
     send(&mut lost, &mut servers, &[2]);
     assert_eq!((lost.phase(), lost.chosen()), (Phase::Commit, Some(Set::EMPTY)));
+    commit(&lost, &mut servers, &ALL, 0);
 }
 
 #[test]
@@ -143,7 +143,7 @@ fn servers_and_drives_come_back_from_their_bytes() {
     assert_eq!((&restarted, &same_drive), (&servers, &drive));
     for (drive, servers) in [(&mut drive, &mut servers), (&mut same_drive, &mut restarted)] {
         send(drive, servers, &ALL);
-        commit(drive, servers, &ALL);
+        commit(drive, servers, &ALL, 1);
         assert_eq!(spares(servers), [-5, 5]);
     }
     assert_eq!((&restarted, &same_drive), (&servers, &drive));
@@ -156,7 +156,7 @@ fn bytes_stand_where_the_header_says() {
     let mut servers = six_servers();
     let mut drive = Drive::start(0, 8, &MOVE).unwrap();
     send(&mut drive, &mut servers, &ALL);
-    commit(&drive, &mut servers, &ALL);
+    commit(&drive, &mut servers, &ALL, 1);
     let (server, drive) = (servers[5].to_bytes(), drive.to_bytes());
     let number = |bytes: &[u8], at: usize| u32::from_le_bytes([bytes[at], bytes[at + 1], bytes[at + 2], bytes[at + 3]]);
     assert_eq!((server.len(), drive.len()), (19_856, 968));

@@ -29,8 +29,8 @@ fn add(operand: i32) -> Piece {
 /// The next number has these pieces; it is committed and runs. Gives its results, which a Fetch must tell too.
 fn run(server: &mut Server, pieces: &[Piece]) -> Vec<Value> {
     let t = server.log().len() as u32;
-    server.take_message(&Message::Commit { t, pieces: pieces.to_vec(), set: Set::EMPTY }).unwrap();
-    assert_eq!(server.run_all(), Ok(1));
+    let reply = server.take_message(&Message::Commit { t, pieces: pieces.to_vec(), set: Set::EMPTY });
+    assert_eq!(reply, Ok(Message::CommitOk { t, server: server.id(), ran: 1 }));
     let values = server.results(t).unwrap();
     let fetched = server.take_message(&Message::Fetch { t }).unwrap();
     assert_eq!(fetched, Message::Results { t, server: server.id(), values: values.clone() });

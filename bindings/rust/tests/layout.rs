@@ -37,7 +37,7 @@ fn shapes() -> Vec<Shape> {
         MaybeSet drobulets_maybe_set { some, set }
         Value drobulets_value { value, kept }
         Values drobulets_values { list, count }
-        Message drobulets_message { code, t, server, ballot, promise, pieces, set, word, arrival, accepted, values }
+        Message drobulets_message { code, t, server, ballot, promise, pieces, set, word, arrival, accepted, values, ran }
         Record drobulets_record { pieces, promise, arrival, accepted, committed, ran, values }
         Counter drobulets_counter { value, full }
         Counters drobulets_counters { list }

@@ -20,7 +20,8 @@ fn samples() -> Vec<Message> {
         Message::Fetch { t },
         Message::PreAcceptOk { t, server, ballot, word: 1 << 63 | 1 },
         Message::AcceptOk { t, server, ballot },
-        Message::CommitOk { t, server },
+        Message::CommitOk { t, server, ran: 64 },
+        Message::CommitOk { t, server, ran: u32::MAX },
         Message::Behind { t, server, asked: 8, promise: ballot },
         Message::NotYet { t, server },
     ];
@@ -68,7 +69,7 @@ fn every_message_reads_back_from_its_struct() {
 #[test]
 fn what_a_struct_ignores_is_no_part_of_the_message() {
     let inquire = Message::Inquire { t: 9 };
-    let rubbish = layout::Message { server: 5, word: 7, ..layout::Message::from(&inquire) };
+    let rubbish = layout::Message { server: 5, word: 7, ran: 3, ..layout::Message::from(&inquire) };
     assert_eq!(Message::try_from(&rubbish), Ok(inquire));
 }
 

@@ -14,7 +14,7 @@ fn commit(t: u32, pieces: &[Piece], set: Set) -> Message {
     Message::Commit { t, pieces: pieces.to_vec(), set }
 }
 
-/// A server of shard 0 that has promised T8 and committed T1.
+/// A server of shard 0 that has promised T8, and has committed and run T1.
 fn busy_server() -> Server {
     let mut server = Server::fresh(0).unwrap();
     server.take_message(&pre_accept(8, 16, &[PUT])).unwrap();
@@ -61,13 +61,15 @@ fn a_server_refuses() {
     assert_eq!(refused(pre_accept(9, 0, &[Piece::put(1, 3, 5)])), Refusal::Untouched);
     assert_eq!(refused(pre_accept(8, 16, &[EIGHT])), Refusal::OtherPieces);
     assert_eq!(refused(commit(1, &[EIGHT], Set::from([4, 0, 0, 0]))), Refusal::OtherSet);
-    assert_eq!(refused(Message::CommitOk { t: 1, server: 0 }), Refusal::NotTaken);
+    assert_eq!(refused(Message::CommitOk { t: 1, server: 0, ran: 1 }), Refusal::NotTaken);
 
     let bytes = pre_accept(8, 16, &[PUT]).encode().unwrap();
     assert_eq!(refused_bytes(&server, &bytes[..bytes.len() - 1], LONGEST), Refusal::BytesShort);
     assert_eq!(refused_bytes(&server, &[&bytes[..], &[0]].concat(), LONGEST), Refusal::BytesLeft);
     assert_eq!(refused_bytes(&server, &[0, 0, 0, 6], LONGEST), Refusal::NotTaken);
     assert_eq!(refused_bytes(&server, &bytes, 23), Refusal::OutputShort);
+    let bytes = commit(2, &[PUT], Set::EMPTY).encode().unwrap();
+    assert_eq!(refused_bytes(&server, &bytes, 15), Refusal::OutputShort);
     assert_eq!(refused_bytes(&server, &[], 0), Refusal::BytesShort);
     assert_eq!(Server::fresh(12), Err(Refusal::BadNumber));
 }
@@ -84,7 +86,7 @@ fn a_drive_refuses() {
     assert_eq!(told(&drive, Message::PreAcceptOk { t: 64, server: 1, ballot: 0, word: 0 }), Refusal::BadNumber);
     assert_eq!(told(&drive, Message::Done { t: 8, pieces: vec![], set: Set::EMPTY }), Refusal::BadPieces);
     assert_eq!(told(&drive, Message::Done { t: 8, pieces: vec![EIGHT], set: Set::EMPTY }), Refusal::OtherPieces);
-    assert_eq!(told(&drive, Message::CommitOk { t: 8, server: 1 }), Refusal::NotTaken);
+    assert_eq!(told(&drive, Message::CommitOk { t: 8, server: 1, ran: 1 }), Refusal::NotTaken);
     assert_eq!(refused(&drive, |drive| drive.take(&[0, 0])), Refusal::BytesShort);
     let long = Message::AcceptOk { t: 8, server: 1, ballot: 0 }.encode().unwrap();
     assert_eq!(refused(&drive, |drive| drive.take(&[&long[..], &[0]].concat())), Refusal::BytesLeft);

@@ -1,4 +1,4 @@
--- Document 01, "Bench cases", with the reads of request 1 in H: the cases A to L, computed with the definitions that the contracts cite, under one theorem. A line of a case is one thing fed and what comes out.
+-- Document 01, "Bench cases", with the reads of request 1 in H, and D, E and F as request 2 of document 02 has them, where a Commit runs what is ready: the cases A to L, computed with the definitions that the contracts cite, under one theorem. A line of a case is one thing fed and what comes out.
 use mathlib.Core.Path.{_≡_, refl}
 use mathlib.Core.List.{[], _∷_, _++_}
 use lib.IntN.{pos, negsuc}
@@ -7,13 +7,14 @@ use Rattle.rules.specs.Ballots.{nextBallot}
 use Rattle.rules.specs.Pieces.{read}
 use Rattle.rules.specs.Sets.{noSet}
 use Rattle.rules.specs.Maybe.{someWord, noVote, someVote}
-use Rattle.wire.specs.Messages.{preAccept, accept, commit, prepare, inquire, preAcceptOK, acceptOK, prepareOK, behind}
+use Rattle.wire.specs.Messages.{preAccept, accept, commit, prepare, inquire, preAcceptOK, acceptOK, prepareOK, commitOK, behind}
 use Rattle.wire.specs.Bytes.{bytes, decode}
 use Rattle.counters.specs.Effects.{counterAt}
 use Rattle.server.specs.Run.{run}
 use Rattle.server.specs.Host.{wanted}
-use Rattle.cases.specs.Inputs.{piece, one, only, after, answer, refuses, put5, add2, inA, inB, inC, inD, inE, inF, adds, readAfter, leaving, heardAll, inL}
+use Rattle.cases.specs.Inputs.{piece, one, only, after, answer, refuses, put5, add2, inA, inB, inC, commit8, commit1, inD, inE, first1, then2, inF, adds, readAfter, leaving, heardAll, inL}
 use Rattle.cases.specs.Computes.{computes}
+use Rattle.cases.specs.CaseE.{leaves-E}
 
 -- a first arrival finds nobody; a second number finds the first; the first again has its word still
 abbrev pub A : Type 0
@@ -35,27 +36,31 @@ C =
     × (answer inC (preAccept 8 8 put5) ≡ preAcceptOK 8 0 8 0)
     × (answer (inC ++ (preAccept 8 8 put5 ∷ [])) (prepare 8 8 put5) ≡ prepareOK 8 0 8 (someWord 0) (someVote 8 noSet))
 
--- two numbers, each before the other: one run of 2, log 1, 8, counter 3 is 5
+-- two numbers, each before the other: the first Commit runs 0, the second runs 2; log 1, 8, counter 3 is 5, and a run then gives 0
 abbrev pub D : Type 0
 D =
-    (run inD .many ≡ 2)
-    × (run inD .server .log .count ≡ 2)
-    × (take 2 (run inD .server .log .list) ≡ 1 ∷ 8 ∷ [])
-    × (counterAt (run inD .server .counters) 3 .value ≡ pos 5)
+    (answer [] commit8 ≡ commitOK 8 0 0)
+    × (answer (commit8 ∷ []) commit1 ≡ commitOK 1 0 2)
+    × (inD .log .count ≡ 2)
+    × (take 2 (inD .log .list) ≡ 1 ∷ 8 ∷ [])
+    × (counterAt (inD .counters) 3 .value ≡ pos 5)
+    × (run inD .many ≡ 0)
 
--- the first of them alone: nothing runs or changes, and the other is wanted
+-- the first of them alone: its Commit runs 0, a run then gives 0 and changes nothing, and the other is wanted
 abbrev pub E : Type 0
 E =
-    (run inE .many ≡ 0)
+    (answer [] commit8 ≡ commitOK 8 0 0)
+    × (inE .log .count ≡ 0)
+    × (run inE .many ≡ 0)
     × (run inE .server ≡ inE)
     × (wanted inE .set ≡ only 1 2)
 
--- one after the other: runs of 1 and 1, and then of 0
+-- one after the other: each Commit runs 1, and a run then gives 0
 abbrev pub F : Type 0
 F =
-    (run inF .many ≡ 1)
-    × (run (run inF .server) .many ≡ 1)
-    × (run (run (run inF .server) .server) .many ≡ 0)
+    (answer [] first1 ≡ commitOK 1 0 1)
+    × (answer (first1 ∷ []) then2 ≡ commitOK 2 0 1)
+    × (run inF .many ≡ 0)
 
 -- next ballots
 abbrev pub G : Type 0
@@ -104,4 +109,4 @@ L =
 pub bench : A × B × C × D × E × F × G × H × I × J × K × L
 unfolding computes after heardAll
 bench =
-    ((refl, refl, refl), (refl, refl), (refl, refl, refl), (refl, refl, refl, refl), (refl, refl, refl), (refl, refl, refl), (refl, refl, refl, refl), (refl, refl, refl, refl, refl), refl, (refl, refl), (refl, refl, refl, refl, refl), (refl, refl, refl, refl))
+    ((refl, refl, refl), (refl, refl), (refl, refl, refl), (refl, refl, refl, refl, refl, refl), (refl, refl, refl, leaves-E, refl), (refl, refl, refl), (refl, refl, refl, refl), (refl, refl, refl, refl, refl), refl, (refl, refl), (refl, refl, refl, refl, refl), (refl, refl, refl, refl))

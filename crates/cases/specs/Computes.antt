@@ -19,7 +19,7 @@ use Rattle.server.specs.Held.{committedWord, ranWord}
 use Rattle.server.specs.Form.{piecesFormed, ballotsFormed, setsFormed, setsHavePieces, recordFormed, recordFormedAt, noted, logged, entryFormed, logFormed, resultsFormed, resultsFormedAt, formed}
 use Rattle.server.specs.Refusals.{notTaken, untouched, otherPieces, otherSet, refusal}
 use Rattle.server.specs.Changes.{asked, arrive, preAccepted, accepted, prepared as server-prepared, committed, inquired, fetched, change}
-use Rattle.server.specs.Serve.{cameEarlier, arrivalSet, arrivalFor, taken, serve}
+use Rattle.server.specs.Serve.{cameEarlier, arrivalSet, arrivalFor, taken, thenRuns, stepped, serve}
 use Rattle.server.specs.Run.{depsAt, depsOf, nextRun, runOne, runGroup, turn, run, turns, runAll}
 use Rattle.server.specs.Host.{freshServer, fresh, committedIn, wantedIn, wanted}
 use Rattle.drive.specs.Decide.{answered, allAnswered, twoIn, twoInEach, decided, wordThere, agree, equalIn, equalWords, wordIn, unionIn, better, highest, decide0, decide1, decide2, decide}
@@ -29,5 +29,5 @@ use Rattle.drive.specs.Host.{unless, startRefusal, start, recoverRefusal, recov
 use Rattle.drive.specs.Due.{dueMessage, serversOf, due}
 
 unfoldable pub computes : Unit {0}
-unfolding bit insert union both without within allBelow anyBelow countBelow maskOf unionOf least tab iter over mayUse nextAbove noNext nextRefusal nextBallot isZero entryKept piecesKept onShard touches shardsOf piecesOn sameInt samePiece sameEntry samePieces clashWith clashAny conflict word members unionSet sameSet badWord badWordAt badSet be xdr-value got32 got64 judged flag int shapeOf overCount badNumbers badPieces badSets wire-piece wire-pieces set4 wire-value wire-values maybeWord maybeVote body code bytes ended decodedAs decode unwritable encodeRefusal grown pass passes rowsOf before missing closed awaited ready firstReady joins group groupAt nextGroup leaves added effect runPiece runEntry execute committedWord ranWord piecesFormed ballotsFormed setsFormed setsHavePieces recordFormed recordFormedAt noted logged entryFormed logFormed resultsFormed resultsFormedAt formed notTaken untouched otherPieces otherSet refusal asked arrive preAccepted accepted server-prepared committed inquired fetched change cameEarlier arrivalSet arrivalFor taken serve depsAt depsOf nextRun runOne runGroup size turn run turns runAll freshServer fresh committedIn wantedIn wanted answered allAnswered twoIn twoInEach decided wordThere agree equalIn equalWords wordIn unionIn better highest decide0 decide1 decide2 decide numbersFormed drive-ballotsFormed wordFormed acceptedFormed answerFormed tooFew setFormed drive-formed drive-notTaken otherPhase misplaced drive-otherPieces drive-refusal answerOf settle count heard hear unless startRefusal start recoverRefusal recover againRefusal again moveOnRefusal moveOn dueMessage serversOf due
+unfolding bit insert union both without within allBelow anyBelow countBelow maskOf unionOf least tab iter over mayUse nextAbove noNext nextRefusal nextBallot isZero entryKept piecesKept onShard touches shardsOf piecesOn sameInt samePiece sameEntry samePieces clashWith clashAny conflict word members unionSet sameSet badWord badWordAt badSet be xdr-value got32 got64 judged flag int shapeOf overCount badNumbers badPieces badSets wire-piece wire-pieces set4 wire-value wire-values maybeWord maybeVote body code bytes ended decodedAs decode unwritable encodeRefusal grown pass passes rowsOf before missing closed awaited ready firstReady joins group groupAt nextGroup leaves added effect runPiece runEntry execute committedWord ranWord piecesFormed ballotsFormed setsFormed setsHavePieces recordFormed recordFormedAt noted logged entryFormed logFormed resultsFormed resultsFormedAt formed notTaken untouched otherPieces otherSet refusal asked arrive preAccepted accepted server-prepared committed inquired fetched change cameEarlier arrivalSet arrivalFor taken thenRuns stepped serve depsAt depsOf nextRun runOne runGroup size turn run turns runAll freshServer fresh committedIn wantedIn wanted answered allAnswered twoIn twoInEach decided wordThere agree equalIn equalWords wordIn unionIn better highest decide0 decide1 decide2 decide numbersFormed drive-ballotsFormed wordFormed acceptedFormed answerFormed tooFew setFormed drive-formed drive-notTaken otherPhase misplaced drive-otherPieces drive-refusal answerOf settle count heard hear unless startRefusal start recoverRefusal recover againRefusal again moveOnRefusal moveOn dueMessage serversOf due
 computes = tt

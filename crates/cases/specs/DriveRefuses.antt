@@ -49,7 +49,8 @@ pub drive-refuses :
     × (recover noDrive 1 8 put5 4294967295 .refusal ≡ 9)
     × (again (recover noDrive 1 8 put5 65528 .drive) .refusal ≡ 9)
     -- 12 before 8; 2 before 8; 8 before 5; 8 before 3; 5 before 3; any event in phase 3
-    × (hears (inL 0 0 0) [] (commitOK 8 0) ≡ 12)
+    × (hears (inL 0 0 0) [] (commitOK 8 0 0) ≡ 12)
+    × (hears (inL 0 0 0) [] (commitOK 8 0 2) ≡ 12)
     × (hears (inL 0 0 0) [] (done 8 noPieces noSet) ≡ 2)
     × (hears started [] (done 9 add2 noSet) ≡ 8)
     × (hears started [] (preAcceptOK 8 0 8 256) ≡ 8)
@@ -61,7 +62,7 @@ pub drive-refuses :
     × (hears started (preAcceptOK 8 0 0 0 ∷ []) (behind 8 0 0 17) ≡ 0)
     × (again (heardAll started (behind 8 0 0 17 ∷ [])) .drive .ballot ≡ 24)
 unfolding computes after heardAll
-drive-refuses = (refl, refl, refl, refl, refl, refl, refl, refl, refl, refl, refl, refl, refl, refl, refl, refl, refl, refl, refl, refl, refl, refl, refl, refl, refl)
+drive-refuses = (refl, refl, refl, refl, refl, refl, refl, refl, refl, refl, refl, refl, refl, refl, refl, refl, refl, refl, refl, refl, refl, refl, refl, refl, refl, refl)
 
 pub decisions :
     -- the messages due

@@ -134,7 +134,7 @@ module _ (s : List ℕ) where
       let n = bare-long s b in
       let h : bare k ≡ true = rw w (and-yes-r (eqb (length s) 8) (bare (wordAt s 0)) b) in
       let e = bare-shape k h in
-      let f = front-read bareShape s (clean 4) (word-read s 4 (omega arith) v) (reads-none 0 u32 s (clean 8) refl) (reads-none 0 u32 s (clean 8) refl) (reads-none 0 u32 s (clean 8) refl) in
+      let f = front-read bareShape s (clean 4) (word-read s 4 (omega arith) v) (reads-none 0 u32 s (clean 8) refl) (reads-none 0 u32 s (clean 8) refl) (reads-none 0 u32 s (clean 8) refl) (reads-none 0 u32 s (clean 8) refl) in
       let r : Reads (rest bareShape) s (clean 8) noRest (clean (length s)) =
       rw n (rest-read bareShape s (clean 8) (reads-none noPieces pieces s (clean 8) refl) (reads-none noSet set4 s (clean 8) refl) (reads-none 0 u64 s (clean 8) refl) (reads-none (noWord, noVote) prepared s (clean 8) refl) (reads-none noValues values s (clean 8) refl)) in
       exact-decoded s bareShape e (code-read s bareShape e refl (omega arith) w) f r
@@ -154,7 +154,7 @@ module _ (s : List ℕ) where
         let place = x .place in
         let end : Cursor = clean (at + (4 + n * 16)) in
         let p′ : Reads (when 0 u32 (A .ballot)) s (clean 8) b (clean at) = rw (x .place) p in
-        let f = front-read A s (clean 4) (word-read s 4 (omega arith) w) (reads-none 0 u32 s (clean 8) refl) p′ (reads-none 0 u32 s (clean at) refl) in
+        let f = front-read A s (clean 4) (word-read s 4 (omega arith) w) (reads-none 0 u32 s (clean 8) refl) p′ (reads-none 0 u32 s (clean at) refl) (reads-none 0 u32 s (clean at) refl) in
         let same : (at + 4) + n * 16 ≡ at + (4 + n * 16) = omega arith in
         let ps : Reads pieces s (clean at) (record { list = l; count = n }) end = rw same at (pieces-read s (clean at) (count-read s at (omega arith) (x .count) (x .few)) q) in
         let last : Cursor = clean (length s) in
@@ -166,18 +166,19 @@ module _ (s : List ℕ) where
     abbrev B : Shape
     B = answeredShape k
 
-    pub answered-decoded : {t sv b p w : ℕ} → t ≡ wordAt s 4 → sv ≡ wordAt s 8
+    pub answered-decoded : {t sv b p n w : ℕ} → t ≡ wordAt s 4 → sv ≡ wordAt s 8
         → Reads (when 0 u32 (B .ballot)) s (clean 12) b (clean (12 + cost (B .ballot) 4))
         → Reads (when 0 u32 (B .promise)) s (clean (12 + cost (B .ballot) 4)) p (clean ((12 + cost (B .ballot) 4) + cost (B .promise) 4))
-        → Reads (when 0 u64 (B .word)) s (clean ((12 + cost (B .ballot) 4) + cost (B .promise) 4)) w (clean (((12 + cost (B .ballot) 4) + cost (B .promise) 4) + cost (B .word) 8))
-        → _≡_ {A = Decoded} (record { refusal = 0; message = joined k (((t, sv), b), p) ((((noPieces, noSet), w), (noWord, noVote)), noValues) }) (decode s)
-    answered-decoded {w = w} m sv b p q =
+        → Reads (when 0 u32 (B .ran)) s (clean ((12 + cost (B .ballot) 4) + cost (B .promise) 4)) n (clean (((12 + cost (B .ballot) 4) + cost (B .promise) 4) + cost (B .ran) 4))
+        → Reads (when 0 u64 (B .word)) s (clean (((12 + cost (B .ballot) 4) + cost (B .promise) 4) + cost (B .ran) 4)) w (clean ((((12 + cost (B .ballot) 4) + cost (B .promise) 4) + cost (B .ran) 4) + cost (B .word) 8))
+        → _≡_ {A = Decoded} (record { refusal = 0; message = joined k ((((t, sv), b), p), n) ((((noPieces, noSet), w), (noWord, noVote)), noValues) }) (decode s)
+    answered-decoded {w = w} m sv b p n q =
         let e = answered-shape k (x .kind) (x .other) in
         let long = x .exact in
-        let mid : Cursor = clean ((12 + cost (B .ballot) 4) + cost (B .promise) 4) in
+        let mid : Cursor = clean (((12 + cost (B .ballot) 4) + cost (B .promise) 4) + cost (B .ran) 4) in
         let last : Cursor = clean (length s) in
-        let f = front-read B s (clean 4) (word-read s 4 (omega arith) m) (reads-when 0 refl (word-read s 8 (omega arith) sv)) b p in
-        let end : length s ≡ ((12 + cost (B .ballot) 4) + cost (B .promise) 4) + cost (B .word) 8 = omega arith in
+        let f = front-read B s (clean 4) (word-read s 4 (omega arith) m) (reads-when 0 refl (word-read s 8 (omega arith) sv)) b p n in
+        let end : length s ≡ (((12 + cost (B .ballot) 4) + cost (B .promise) 4) + cost (B .ran) 4) + cost (B .word) 8 = omega arith in
         let q′ : Reads (when 0 u64 (B .word)) s mid w last = rw end q in
         exact-decoded s B e (code-read s B e refl (omega arith) (x .code)) f
         (rest-read B s mid (reads-none noPieces pieces s mid refl) (reads-none noSet set4 s mid refl) q′ (reads-none (noWord, noVote) prepared s last (x .unprepared)) (reads-none noValues values s last (x .unrun)))

@@ -43,11 +43,12 @@ header-read s c {k} {mid} h p e n =
 
 -- ---- the sections, each reader's value and cursor in a row
 
-pub front-read : (h : Shape) (s : List ℕ) (c : Cursor) {t sv b p : ℕ} {c₁ c₂ c₃ c₄ : Cursor}
+pub front-read : (h : Shape) (s : List ℕ) (c : Cursor) {t sv b p n : ℕ} {c₁ c₂ c₃ c₄ c₅ : Cursor}
     → Reads u32 s c t c₁ → Reads (when 0 u32 (h .server)) s c₁ sv c₂ → Reads (when 0 u32 (h .ballot)) s c₂ b c₃ → Reads (when 0 u32 (h .promise)) s c₃ p c₄
-    → Reads (front h) s c (((t, sv), b), p) c₄
+    → Reads (when 0 u32 (h .ran)) s c₄ n c₅
+    → Reads (front h) s c ((((t, sv), b), p), n) c₅
 unfolding front
-front-read h s c p₁ p₂ p₃ p₄ = reads-then (reads-then (reads-then p₁ p₂) p₃) p₄
+front-read h s c p₁ p₂ p₃ p₄ p₅ = reads-then (reads-then (reads-then (reads-then p₁ p₂) p₃) p₄) p₅
 
 pub rest-read : (h : Shape) (s : List ℕ) (c : Cursor) {ps : Pieces} {st : Set} {w : ℕ} {pr : MaybeWord × MaybeVote} {vs : Values} {c₁ c₂ c₃ c₄ c₅ : Cursor}
     → Reads (when noPieces pieces (h .pieces)) s c ps c₁

@@ -43,11 +43,12 @@ struct GotFront {
     pub server: u32,
     pub ballot: u32,
     pub promise: u32,
+    pub ran: u32,
     pub next: Cursor,
 }
 
 fn get_front(s: &[u8], c: Cursor, h: Shape) -> GotFront
-    ensures { λ r. ⌜ Reads (front h) (now (s .entry)) c (((r .t, r .server), r .ballot), r .promise) (r .next) ⌝ }
+    ensures { λ r. ⌜ Reads (front h) (now (s .entry)) c ((((r .t, r .server), r .ballot), r .promise), r .ran) (r .next) ⌝ }
 {
     let t = xdr::get_u32(s, c);
     let c1 = t.next;
@@ -56,12 +57,15 @@ fn get_front(s: &[u8], c: Cursor, h: Shape) -> GotFront
     let ballot = get_u32_if(h.ballot, s, c2);
     let c3 = ballot.next;
     let promise = get_u32_if(h.promise, s, c3);
-    let next = promise.next;
+    let c4 = promise.next;
+    let ran = get_u32_if(h.ran, s, c4);
+    let next = ran.next;
     GotFront {
         t: t.v,
         server: server.v,
         ballot: ballot.v,
         promise: promise.v,
+        ran: ran.v,
         next,
     }
 }
@@ -84,14 +88,15 @@ fn refused(refusal: u32) -> Decoded
 
 // A message that ends with its front.
 fn short_message(n: usize, k: u32, f: GotFront) -> Decoded
-    ensures { λ r. ⌜ r ≡ decodedAs (joined k (((f .t, f .server), f .ballot), f .promise) noRest) (judged (leb n (f .next .at)) 11 (f .next)) ⌝ }
+    ensures { λ r. ⌜ r ≡ decodedAs (joined k ((((f .t, f .server), f .ballot), f .promise), f .ran) noRest) (judged (leb n (f .next .at)) 11 (f .next)) ⌝ }
 {
     let next = f.next;
     let fault = fault_of(n, next);
     if fault != 0 {
         return refused(fault);
     }
-    let message = plain(k, f.t, f.server, f.ballot, f.promise);
+    let mut message = plain(k, f.t, f.server, f.ballot, f.promise);
+    message.ran = f.ran;
     Decoded {
         refusal: 0,
         message,
@@ -100,7 +105,7 @@ fn short_message(n: usize, k: u32, f: GotFront) -> Decoded
 
 // A message that has some of the rest behind its front.
 fn long_message(s: &[u8], k: u32, f: GotFront, h: Shape) -> Decoded
-    ensures { λ r. ⌜ r ≡ decodedAs (joined k (((f .t, f .server), f .ballot), f .promise) (rest h .get (now (s .entry)) (f .next) .v)) (ended (now (s .entry)) (rest h .get (now (s .entry)) (f .next) .next)) ⌝ }
+    ensures { λ r. ⌜ r ≡ decodedAs (joined k ((((f .t, f .server), f .ballot), f .promise), f .ran) (rest h .get (now (s .entry)) (f .next) .v)) (ended (now (s .entry)) (rest h .get (now (s .entry)) (f .next) .next)) ⌝ }
 {
     let c1 = f.next;
     let ps = get_pieces_if(h.pieces, s, c1);
@@ -135,6 +140,7 @@ fn long_message(s: &[u8], k: u32, f: GotFront, h: Shape) -> Decoded
         arrival,
         accepted,
         values,
+        ran: f.ran,
     };
     Decoded {
         refusal: 0,

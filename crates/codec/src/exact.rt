@@ -219,9 +219,12 @@ pub fn read_answered(bytes: &[u8], code: u32) -> Decoded
     let b = 12 + cost(h.ballot, 4);
     let promise = word_if(bytes, b, h.promise);
     let p = b + cost(h.promise, 4);
-    let word = hyper_if(bytes, p, h.word);
+    let ran = word_if(bytes, p, h.ran);
+    let n = p + cost(h.ran, 4);
+    let word = hyper_if(bytes, n, h.word);
     let mut message = plain(code, t, server, ballot, promise);
     message.word = word;
+    message.ran = ran;
     Decoded {
         refusal: 0,
         message,

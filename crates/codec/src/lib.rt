@@ -67,6 +67,7 @@ pub fn by_fields(d: Decoded) -> Decoded
             },
             accepted,
             values,
+            ran: d.message.ran,
         },
     }
 }
@@ -103,6 +104,7 @@ pub fn encode(message: Message, out: &mut [u8]) -> Encoded
             message.server,
             message.ballot,
             message.promise,
+            message.ran,
             message.word,
             arrival,
             accepted,

@@ -1,29 +1,32 @@
--- A message changes no record of a server but that of its T. So the record that is handed on, put in its place where nothing refuses, gives the server after the message. A reply changes a drive by what it comes to. Assumes nothing.
+-- A message changes no record of a server but that of its T. So the record that is handed on, put in its place where nothing refuses, gives the server after the message, if nothing runs. A reply changes a drive by what it comes to. Assumes nothing.
 use Prim.Native.Nat.{ℕ, _<_}
 use mathlib.Core.Path.{_≡_, refl, sym, ap, _∙_}
 use mathlib.Core.List.{List}
 use mathlib.Core.Logic.{⊎-elim}
 use mathlib.Core.Bool.{Bool, true, false}
 use native.Mathlib.Omega.{arith}
-use Rattle.masks.proofs.Bools.{true-or-false, true-and-false}
+use lib.Dec.{ltb}
+use borrow.Author.Tests.{ltb-true}
+use Rattle.masks.proofs.Bools.{true-or-false, true-and-false, cond-false}
 use Rattle.rules.specs.Flags.{there}
-use Rattle.wire.specs.declared.Message.{Message}
 use Rattle.wire.specs.declared.Decoded.{Decoded}
 use Rattle.wire.specs.Bytes.{decode}
-use Rattle.wire.specs.Encoding.{Encoding, encode}
+use Rattle.wire.specs.Encoding.{encode}
 use Rattle.server.specs.declared.Server.{Server}
 use Rattle.server.specs.declared.Served.{Served}
 use Rattle.server.specs.Held.{putRecord}
 use Rattle.server_step.specs.declared.Considered.{Considered}
-use Rattle.server_step.specs.OneStore.{considered, consideredAt, stored as served}
+use Rattle.server.specs.Serve.{thenRuns}
+use Rattle.server_step.specs.OneStore.{considered, consideredAt, runsAfter, stored as served}
+use Rattle.server_read.specs.InPlace.{formBegun, formIn}
+use Rattle.server_read.proofs.StepInPlace.{considered-by}
 use Rattle.server_step.proofs.StepIsServe.{step-is-serve, place-lt}
-use Rattle.rules.specs.Choice.{_if_else_}
 use Rattle.drive.specs.declared.Drive.{Drive}
 use Rattle.drive.specs.declared.Moved.{Moved}
 use Rattle.drive_step.specs.Weighing.{turned, kept, stored}
 use Rattle.drive_step.proofs.Outcomes.{stored-hears, placed}
 use Rattle.door.specs.declared.Taken.{Taken}
-use Rattle.door.specs.Exchange.{Exchange, exchanged, take, judgedOf, heardOf, answerOf, writtenOf, takeReply, weighReply}
+use Rattle.door.specs.Exchange.{Exchange, exchanged, take, judgedOf, heardOf, placeIn, answerOf, writtenOf, takeReply, weighReply}
 
 -- ---- what is told of a message, what is written, and the server after it, by the refusals of decoding, the step and encoding
 
@@ -51,36 +54,57 @@ module _ (s : Server) (z : List ℕ) (d : Decoded) (c : Considered) where
   agrees : Agrees
   agrees = by-tests (there (d .refusal)) (there (c .refusal)) (there (encode (c .reply) z .refusal)) refl refl refl
 
+-- the place of a record to store is one
+pub place-in-below : (v : Considered) → placeIn v < 64
+unfolding placeIn
+place-in-below v = ⊎-elim (λ h. rw h (ltb-true (v .place) 64 h)) (λ h. rw h (omega arith)) (true-or-false (ltb (v .place) 64))
+
 module _ (s : Server) (input z : List ℕ) where
+  abbrev d : Decoded
+  d = decode input
+
   abbrev c : Considered
-  c = considered s (decode input .message)
+  c = considered s (d .message)
 
-  abbrev answered : Taken
-  answered = answerOf (heardOf s (decode input)) z
+  abbrev h : Considered
+  h = heardOf s (formIn s (formBegun (s .id) (s .log)) 64) d
 
-  asked-is : exchanged s z (decode input) (served s c) (encode (c .reply) z) ≡ take s input z
-  unfolding take
-  asked-is = ap (λ (v : Served). exchanged s z (decode input) v (encode (v .reply) z)) (step-is-serve s (decode input .message))
-
-  pub take-told : answered .answer ≡ take s input z .answer
+  pub heard-is : h ≡ judgedOf d c
   unfolding heardOf
-  take-told = agrees s z (decode input) c .answer ∙ ap (λ (x : Exchange). x .answer) asked-is
+  heard-is = ap (judgedOf d) (considered-by s (d .message))
 
-  pub take-written : writtenOf (heardOf s (decode input)) z ≡ take s input z .output
-  unfolding heardOf
-  take-written = agrees s z (decode input) c .output ∙ ap (λ (x : Exchange). x .output) asked-is
+  pub take-below : answerOf h z .place < 64
+  unfolding considered consideredAt
+  take-below = place-lt (d .message .t) (answerOf h z .place) (ap (λ (v : Considered). answerOf v z .place) heard-is ∙ agrees s z d c .place)
 
-  pub take-below : answered .place < 64
-  unfolding heardOf considered consideredAt
-  take-below = place-lt (decode input .message .t) (answered .place) (agrees s z (decode input) c .place)
+  -- a message after which nothing runs: refused, or no Commit
+  module _ (quiet : runsAfter (h .refusal) (d .message .code) ≡ false) where
+    asked-by : (b : Bool) → there (d .refusal) ≡ b → runsAfter (judgedOf d c .refusal) (d .message .code) ≡ false → exchanged s z d (served s c) (encode (c .reply) z) ≡ take s input z
+    unfolding take exchanged
+    asked-by true e q = rw e
+    asked-by false e q =
+        let k : runsAfter (c .refusal) (d .message .code) ≡ false = rw e at q in
+        ap (λ (v : Served). exchanged s z d v (encode (v .reply) z)) (sym (cond-false (runsAfter (c .refusal) (d .message .code)) (thenRuns (served s c)) (served s c) k) ∙ step-is-serve s (d .message))
 
-  pub take-refused : there (answered .answer .refusal) ≡ true → s ≡ take s input z .server
-  unfolding heardOf
-  take-refused h = agrees s z (decode input) c .kept h ∙ ap (λ (x : Exchange). x .server) asked-is
+    asked-is : exchanged s z d (served s c) (encode (c .reply) z) ≡ take s input z
+    asked-is = asked-by _ refl (ap (λ (v : Considered). runsAfter (v .refusal) (d .message .code)) (sym heard-is) ∙ quiet)
 
-  pub take-left : there (answered .answer .refusal) ≡ false → putRecord s (answered .place) (answered .after) ≡ take s input z .server
-  unfolding heardOf
-  take-left h = agrees s z (decode input) c .put h ∙ ap (λ (x : Exchange). x .server) asked-is
+    pub take-told : answerOf h z .answer ≡ take s input z .answer
+    take-told = ap (λ (v : Considered). answerOf v z .answer) heard-is ∙ agrees s z d c .answer ∙ ap (λ (x : Exchange). x .answer) asked-is
+
+    pub take-written : writtenOf h z ≡ take s input z .output
+    take-written = ap (λ (v : Considered). writtenOf v z) heard-is ∙ agrees s z d c .output ∙ ap (λ (x : Exchange). x .output) asked-is
+
+    refused-too : {b : Bool} → there (answerOf h z .answer .refusal) ≡ b → there (answerOf (judgedOf d c) z .answer .refusal) ≡ b
+    refused-too e = ap (λ (v : Considered). there (answerOf v z .answer .refusal)) (sym heard-is) ∙ e
+
+    pub take-refused : there (answerOf h z .answer .refusal) ≡ true → s ≡ take s input z .server
+    take-refused e = agrees s z d c .kept (refused-too e) ∙ ap (λ (x : Exchange). x .server) asked-is
+
+    pub take-left : there (answerOf h z .answer .refusal) ≡ false → putRecord s (answerOf h z .place) (answerOf h z .after) ≡ take s input z .server
+    take-left e =
+        ap (λ (v : Considered). putRecord s (answerOf v z .place) (answerOf v z .after)) heard-is
+        ∙ agrees s z d c .put (refused-too e) ∙ ap (λ (x : Exchange). x .server) asked-is
 
 -- ---- what `weigh_reply` tells, where the answer that it tells is put, and the lent drive after the reply, for each way to store
 

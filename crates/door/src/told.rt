@@ -16,6 +16,13 @@ pub fn planned_counted(p: Planned) -> Counted
     }
 }
 
+// Nothing is stored.
+pub fn answer_refused(a: Answer) -> bool
+    ensures { λ r. ⌜ r ≡ there (a .refusal) ⌝ }
+{
+    a.refusal != 0
+}
+
 pub fn taken_answer(o: Taken) -> Answer
     ensures { λ r. ⌜ r ≡ o .answer ⌝ }
 {

@@ -41,11 +41,11 @@ when-length : {A : Type 0} (d : A) (F : Form A) (b : Bool) (x : A) {n : ℕ} →
 when-length d F true x e = e refl
 when-length d F false x e = refl
 
-front-length : (h : Shape) (t s b p : ℕ) → length (front h .put (((t, s), b), p)) ≡ frontLength h
+front-length : (h : Shape) (t s b p n : ℕ) → length (front h .put ((((t, s), b), p), n)) ≡ frontLength h
 unfolding front
-front-length h t s b p =
+front-length h t s b p n =
     let has : (c : Bool) (v : ℕ) → length (when 0 u32 c .put v) ≡ cost c 4 = λ c v. when-length 0 u32 c v (λ _. be-length 4 v) in
-    simp length-append (omega (arith, be-length 4 t, has (h .server) s, has (h .ballot) b, has (h .promise) p))
+    simp length-append (omega (arith, be-length 4 t, has (h .server) s, has (h .ballot) b, has (h .promise) p, has (h .ran) n))
 
 both-cost : (b : Bool) → cost b 4 + cost b 32 ≡ cost b 36
 both-cost true = refl
@@ -68,18 +68,18 @@ unfolding code
 asked-length h k t b l n v e m =
     let f = flat-first piece 16 piece-length l n (omega arith) in
     let s = when-length noSet set4 (h .set) v (λ _. set-length v) in
-    simp length-append (omega (arith, be-length 4 k, front-length h t 0 b 0, be-length 4 n))
+    simp length-append (omega (arith, be-length 4 k, front-length h t 0 b 0 0, be-length 4 n))
 
-pub answered-length : (h : Shape) (k t s b p w : ℕ) (a : MaybeWord) (v : MaybeVote) (r : Values) → length (r .list) ≡ 8 → (h .values ≡ true → r .count ≤ 8)
-    → length (cat (answeredSections h k t s b p w a v r)) ≡ (((4 + frontLength h) + cost (h .word) 8) + cost (h .prepared) ((4 + cost (there (a .some)) 8) + (4 + cost (there (v .some)) 36))) + cost (h .values) (4 + r .count * 8)
+pub answered-length : (h : Shape) (k t s b p n w : ℕ) (a : MaybeWord) (v : MaybeVote) (r : Values) → length (r .list) ≡ 8 → (h .values ≡ true → r .count ≤ 8)
+    → length (cat (answeredSections h k t s b p n w a v r)) ≡ (((4 + frontLength h) + cost (h .word) 8) + cost (h .prepared) ((4 + cost (there (a .some)) 8) + (4 + cost (there (v .some)) 36))) + cost (h .values) (4 + r .count * 8)
 unfolding code
-answered-length h k t s b p w a v r e m =
+answered-length h k t s b p n w a v r e m =
     let x = when-length 0 u64 (h .word) w (λ _. be-length 8 w) in
     let y = when-length (noWord, noVote) prepared (h .prepared) (a, v) (λ _. prepared-length a v) in
     let z = when-length noValues values (h .values) r (λ g. values-length r (omega (arith, m g))) in
-    simp length-append (omega (arith, be-length 4 k, front-length h t s b p))
+    simp length-append (omega (arith, be-length 4 k, front-length h t s b p n))
 
--- no server and no promise: eight bytes before the count
+-- no server, no promise and no count of what ran: eight bytes before the count of pieces
 pub asked-small : (k : ℕ) (h : Shape) → h ≡ askedShape k → frontLength h ≤ 8
 asked-small k h e = rw e (omega (arith, cost-le (askedShape k .ballot) 4))
 
@@ -146,7 +146,7 @@ module _ (m : Message) (z : List ℕ) where
       by-shape (askedShape k) e (sym (or-false (ltb 8 (m .pieces .count)))) (rw e (simp (append-nil, append-assoc)))
 
   pub encode-answered : bare k ≡ false → asked k ≡ false → answered k ≡ true
-      → sent (answeredShape k .values && ltb 8 (m .values .count)) (cat (answeredSections (answeredShape k) k (m .t) (m .server) (m .ballot) (m .promise) (m .word) (m .arrival) (m .accepted) (m .values))) z ≡ encode m z
+      → sent (answeredShape k .values && ltb 8 (m .values .count)) (cat (answeredSections (answeredShape k) k (m .t) (m .server) (m .ballot) (m .promise) (m .ran) (m .word) (m .arrival) (m .accepted) (m .values))) z ≡ encode m z
   unfolding kindShape bytes body front
   encode-answered f g h =
       let e : shapeOf k ≡ answeredShape k = sym (kind-shape k) ∙ rw (f, g, h) in

@@ -49,14 +49,14 @@ module _ (ss : List (List ℕ)) (at : ℕ) (z : List ℕ) (room : at + length (c
   pub section-put : (i : ℕ) → i < length ss → {a : ℕ} {z₁ : List ℕ} {r : ℕ} {z₂ : List ℕ} → Upto i a z₁ → Put a (getD ss i []) z₁ r z₂ → Upto (suc i) r z₂
   section-put i h p q = rw (cat-more ss i h) (put-put at (cat (take i ss)) (getD ss i []) z (room-for i) p q)
 
--- ---- the front: T, server, ballot, promise
+-- ---- the front: T, server, ballot, promise and the count of what ran
 
-abbrev pub frontSections : Shape → (t s b p : ℕ) → List (List ℕ)
-frontSections h t s b p = be 4 t ∷ when 0 u32 (h .server) .put s ∷ when 0 u32 (h .ballot) .put b ∷ when 0 u32 (h .promise) .put p ∷ []
+abbrev pub frontSections : Shape → (t s b p n : ℕ) → List (List ℕ)
+frontSections h t s b p n = be 4 t ∷ when 0 u32 (h .server) .put s ∷ when 0 u32 (h .ballot) .put b ∷ when 0 u32 (h .promise) .put p ∷ when 0 u32 (h .ran) .put n ∷ []
 
-pub front-is : (h : Shape) (t s b p : ℕ) → cat (frontSections h t s b p) ≡ front h .put (((t, s), b), p)
+pub front-is : (h : Shape) (t s b p n : ℕ) → cat (frontSections h t s b p n) ≡ front h .put ((((t, s), b), p), n)
 unfolding front
-front-is h t s b p = simp (append-nil, append-assoc)
+front-is h t s b p n = simp (append-nil, append-assoc)
 
 -- ---- one more element is copied to the front
 

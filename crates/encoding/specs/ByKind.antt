@@ -16,7 +16,7 @@ use Rattle.rules.specs.declared.MaybeWord.{MaybeWord}
 use Rattle.rules.specs.declared.MaybeVote.{MaybeVote}
 use Rattle.rules.specs.declared.Values.{Values}
 use Rattle.wire.specs.declared.Shape.{Shape}
-use Rattle.wire.specs.Codes.{Accept, Prepare, Inquire, Fetch, PreAcceptOK, AcceptOK, PrepareOK, Done, Behind, Results, commits, has, unknown}
+use Rattle.wire.specs.Codes.{Accept, Prepare, Inquire, Fetch, PreAcceptOK, AcceptOK, CommitOK, PrepareOK, Done, Behind, Results, commits, has, unknown}
 use Rattle.wire.specs.Parts.{piece, set4, prepared, values}
 use Rattle.wire.specs.Bytes.{code}
 use Rattle.encoding.specs.Sections.{front}
@@ -33,13 +33,13 @@ abbrev pub answered : ℕ → Bool
 answered k = leb PreAcceptOK k && leb k Results
 
 abbrev pub bareShape : Shape
-bareShape = has false false false false false false false false
+bareShape = has false false false false false false false false false
 
 abbrev pub askedShape : ℕ → Shape
-askedShape k = has false (not (commits k)) false true (eqb k Accept || commits k) false false false
+askedShape k = has false (not (commits k)) false false true (eqb k Accept || commits k) false false false
 
 abbrev pub answeredShape : ℕ → Shape
-answeredShape k = has true ((leb k AcceptOK || eqb k PrepareOK) || eqb k Behind) (eqb k Behind) false false (eqb k PreAcceptOK) (eqb k PrepareOK) (eqb k Results)
+answeredShape k = has true ((leb k AcceptOK || eqb k PrepareOK) || eqb k Behind) (eqb k Behind) (eqb k CommitOK) false false (eqb k PreAcceptOK) (eqb k PrepareOK) (eqb k Results)
 
 unfoldable pub kindShape : ℕ → Shape
 kindShape k =
@@ -54,12 +54,12 @@ abbrev pub bareSections : (k t : ℕ) → List (List ℕ)
 bareSections k t = code .put k ∷ be 4 t ∷ []
 
 abbrev pub askedSections : Shape → (k t b : ℕ) → List Piece → ℕ → Set → List (List ℕ)
-askedSections h k t b l n v = code .put k ∷ front h .put (((t, 0), b), 0) ∷ be 4 n ∷ flat piece (take n l) ∷ when noSet set4 (h .set) .put v ∷ []
+askedSections h k t b l n v = code .put k ∷ front h .put ((((t, 0), b), 0), 0) ∷ be 4 n ∷ flat piece (take n l) ∷ when noSet set4 (h .set) .put v ∷ []
 
-abbrev pub answeredSections : Shape → (k t s b p w : ℕ) → MaybeWord → MaybeVote → Values → List (List ℕ)
-answeredSections h k t s b p w a v r =
+abbrev pub answeredSections : Shape → (k t s b p n w : ℕ) → MaybeWord → MaybeVote → Values → List (List ℕ)
+answeredSections h k t s b p n w a v r =
     code .put k
-    ∷ front h .put (((t, s), b), p)
+    ∷ front h .put ((((t, s), b), p), n)
     ∷ when 0 u64 (h .word) .put w
     ∷ when (noWord, noVote) prepared (h .prepared) .put (a, v)
     ∷ when noValues values (h .values) .put r

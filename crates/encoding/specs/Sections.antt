@@ -1,4 +1,4 @@
--- A message's fields after its code, in two sections: the front, which is T, server, ballot and promise, and the rest. Many messages have no rest.
+-- A message's fields after its code, in two sections: the front, which is T, server, ballot, promise and the count of what ran, and the rest. Many messages have no rest.
 use mathlib.Core.Bool.{Bool, _||_}
 use mathlib.Core.List.{List, [], _∷_, _++_}
 use Prim.Native.Nat.{ℕ, _+_}
@@ -18,14 +18,14 @@ use Rattle.wire.specs.declared.Shape.{Shape}
 use Rattle.wire.specs.Parts.{pieces, set4, prepared, values}
 
 abbrev pub Front : Type 0
-Front = ((ℕ × ℕ) × ℕ) × ℕ
+Front = (((ℕ × ℕ) × ℕ) × ℕ) × ℕ
 
 unfoldable pub front : Shape → Form Front
-front h = u32 then when 0 u32 (h .server) then when 0 u32 (h .ballot) then when 0 u32 (h .promise)
+front h = u32 then when 0 u32 (h .server) then when 0 u32 (h .ballot) then when 0 u32 (h .promise) then when 0 u32 (h .ran)
 
 -- how many bytes the front takes
 abbrev pub frontLength : Shape → ℕ
-frontLength h = ((4 + cost (h .server) 4) + cost (h .ballot) 4) + cost (h .promise) 4
+frontLength h = (((4 + cost (h .server) 4) + cost (h .ballot) 4) + cost (h .promise) 4) + cost (h .ran) 4
 
 abbrev pub Rest : Type 0
 Rest = (((Pieces × Set) × ℕ) × (MaybeWord × MaybeVote)) × Values
@@ -50,16 +50,17 @@ abbrev pub joined : ℕ → Front → Rest → Message
 joined k f x =
     record {
       code = k;
-      t = f .0 .0 .0;
-      server = f .0 .0 .1;
-      ballot = f .0 .1;
-      promise = f .1;
+      t = f .0 .0 .0 .0;
+      server = f .0 .0 .0 .1;
+      ballot = f .0 .0 .1;
+      promise = f .0 .1;
       pieces = x .0 .0 .0 .0;
       set = x .0 .0 .0 .1;
       word = x .0 .0 .1;
       arrival = x .0 .1 .0;
       accepted = x .0 .1 .1;
       values = x .1;
+      ran = f .1;
     }
 
 -- sections in a row

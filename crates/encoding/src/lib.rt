@@ -62,14 +62,16 @@ fn put_front(
     server: u32,
     ballot: u32,
     promise: u32,
+    ran: u32,
 ) -> usize
-    requires { ⌜ at + length (front h .put (((t, server), ballot), promise)) ≤ length (now out) ⌝ }
-    ensures { λ r. ⌜ Put at (front h .put (((t, server), ballot), promise)) (now (out .entry)) r (now (out .exit)) ⌝ }
+    requires { ⌜ at + length (front h .put ((((t, server), ballot), promise), ran)) ≤ length (now out) ⌝ }
+    ensures { λ r. ⌜ Put at (front h .put ((((t, server), ballot), promise), ran)) (now (out .entry)) r (now (out .exit)) ⌝ }
 {
     let a = put_u32_at(out, at, t);
     let b = put_u32_if(out, a, h.server, server);
     let c = put_u32_if(out, b, h.ballot, ballot);
-    put_u32_if(out, c, h.promise, promise)
+    let d = put_u32_if(out, c, h.promise, promise);
+    put_u32_if(out, d, h.ran, ran)
 }
 
 // n bytes, or none.
@@ -83,9 +85,9 @@ pub fn cost(has: bool, n: usize) -> usize
 }
 
 pub fn front_length(h: Shape) -> usize
-    ensures { λ r. ⌜ (r ≡ frontLength h) × (r ≤ 16) ⌝ }
+    ensures { λ r. ⌜ (r ≡ frontLength h) × (r ≤ 20) ⌝ }
 {
-    4 + cost(h.server, 4) + cost(h.ballot, 4) + cost(h.promise, 4)
+    4 + cost(h.server, 4) + cost(h.ballot, 4) + cost(h.promise, 4) + cost(h.ran, 4)
 }
 
 // An optional word, and an optional ballot and set.
@@ -145,7 +147,7 @@ pub fn asked(
     }
     let mut buffer = [0u8; 176];
     let a = put_header(&mut buffer, code);
-    let b = put_front(&mut buffer, a, h, t, 0, ballot, 0);
+    let b = put_front(&mut buffer, a, h, t, 0, ballot, 0, 0);
     let c = put_u32_at(&mut buffer, b, count);
     let d = put_piece_list(&mut buffer, c, list, k);
     put_set_if(&mut buffer, d, h.set, set);
@@ -161,13 +163,14 @@ pub fn answered(
     server: u32,
     ballot: u32,
     promise: u32,
+    ran: u32,
     word: u64,
     arrival: MaybeWord,
     accepted: MaybeVote,
     values: Values,
 ) -> Encoded
-    ensures { λ r. ⌜ (r ≡ answer (sent (answeredShape code .values && ltb 8 (values .count)) (cat (answeredSections (answeredShape code) code t server ballot promise word arrival accepted values)) (now (out .entry))))
-        × (now (out .exit) ≡ sent (answeredShape code .values && ltb 8 (values .count)) (cat (answeredSections (answeredShape code) code t server ballot promise word arrival accepted values)) (now (out .entry)) .buffer) ⌝ }
+    ensures { λ r. ⌜ (r ≡ answer (sent (answeredShape code .values && ltb 8 (values .count)) (cat (answeredSections (answeredShape code) code t server ballot promise ran word arrival accepted values)) (now (out .entry))))
+        × (now (out .exit) ≡ sent (answeredShape code .values && ltb 8 (values .count)) (cat (answeredSections (answeredShape code) code t server ballot promise ran word arrival accepted values)) (now (out .entry)) .buffer) ⌝ }
 {
     let h = answered_shape(code);
     let unwritable = h.values & (8 < values.count);
@@ -186,7 +189,7 @@ pub fn answered(
     }
     let mut buffer = [0u8; 176];
     let a = put_header(&mut buffer, code);
-    let b = put_front(&mut buffer, a, h, t, server, ballot, promise);
+    let b = put_front(&mut buffer, a, h, t, server, ballot, promise, ran);
     let c = put_u64_if(&mut buffer, b, h.word, word);
     let d = put_prepared_if(&mut buffer, c, h.prepared, arrival, accepted);
     put_values_if(&mut buffer, d, h.values, values);

@@ -6,6 +6,7 @@ use messages::codes::ACCEPT;
 use messages::codes::ACCEPT_OK;
 use messages::codes::BEHIND;
 use messages::codes::COMMIT;
+use messages::codes::COMMIT_OK;
 use messages::codes::DONE;
 use messages::codes::FETCH;
 use messages::codes::INQUIRE;
@@ -15,7 +16,7 @@ use messages::codes::PREPARE_OK;
 use messages::codes::RESULTS;
 use wire::Shape;
 
-// Anything but T, server, ballot and promise.
+// Anything but T, server, ballot, promise and the count of what ran.
 pub fn has_rest(h: Shape) -> bool
     ensures { λ r. ⌜ r ≡ long h ⌝ }
 {
@@ -52,6 +53,7 @@ pub fn asked_shape(code: u32) -> Shape
         server: false,
         ballot: !commits,
         promise: false,
+        ran: false,
         pieces: true,
         set: (code == ACCEPT) | commits,
         word: false,
@@ -68,6 +70,7 @@ pub fn answered_shape(code: u32) -> Shape
         server: true,
         ballot: (code <= ACCEPT_OK) | (code == PREPARE_OK) | (code == BEHIND),
         promise: code == BEHIND,
+        ran: code == COMMIT_OK,
         pieces: false,
         set: false,
         word: code == PRE_ACCEPT_OK,

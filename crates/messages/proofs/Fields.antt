@@ -63,6 +63,7 @@ fields k = record {
   server = (leb 16 k && leb k 23) && not (eqb k 20);
   ballot = (((((eqb k 0 || eqb k 1) || eqb k 3) || eqb k 16) || eqb k 17) || eqb k 19) || eqb k 21;
   promise = eqb k 21;
+  ran = eqb k 18;
   pieces = ((eqb k 0 || eqb k 1) || eqb k 3) || (eqb k 2 || eqb k 20);
   set = eqb k 1 || (eqb k 2 || eqb k 20);
   word = eqb k 16;
@@ -85,6 +86,7 @@ fields-shape =
       other k h 3 (lit< tt),
       other k h 16 (lit< tt),
       other k h 17 (lit< tt),
+      other k h 18 (lit< tt),
       other k h 19 (lit< tt),
       other k h 20 (lit< tt),
       other k h 21 (lit< tt),

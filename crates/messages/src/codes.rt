@@ -49,6 +49,7 @@ pub fn shape_of(code: u32) -> Shape
         server: answered & !done,
         ballot: asks | word | (code == ACCEPT_OK) | prepared | behind,
         promise: behind,
+        ran: code == COMMIT_OK,
         pieces: asks | commit,
         set: accept | commit,
         word: word,

@@ -58,6 +58,7 @@ pub fn plain(code: u32, t: u32, server: u32, ballot: u32, promise: u32) -> Messa
             list: values,
             count: 0,
         },
+        ran: 0,
     }
 }
 

@@ -31,10 +31,12 @@ pub fn accept_ok(t: u32, server: u32, ballot: u32) -> Message
     plain(ACCEPT_OK, t, server, ballot, 0)
 }
 
-pub fn commit_ok(t: u32, server: u32) -> Message
-    ensures { λ r. ⌜ r ≡ commitOK t server ⌝ }
+pub fn commit_ok(t: u32, server: u32, ran: u32) -> Message
+    ensures { λ r. ⌜ r ≡ commitOK t server ran ⌝ }
 {
-    plain(COMMIT_OK, t, server, 0, 0)
+    let mut r = plain(COMMIT_OK, t, server, 0, 0);
+    r.ran = ran;
+    r
 }
 
 pub fn prepare_ok(

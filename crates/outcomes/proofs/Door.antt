@@ -5,6 +5,11 @@ use Prim.Native.Nat.{ℕ}
 use Rattle.outcomes.specs.Once.{Answers, Leaves}
 use Rattle.door.proofs.exchange.message_of.Reads as door·exchange·message-of-contract
 use Rattle.door.proofs.exchange.judged.Reads as door·exchange·judged-contract
+use Rattle.door.proofs.exchange.runs.Reads as door·exchange·runs-contract
+use Rattle.door.proofs.exchange.place_in.Reads as door·exchange·place-in-contract
+use Rattle.door.proofs.exchange.committed_of.Reads as door·exchange·committed-of-contract
+use Rattle.door.proofs.exchange.record_of.Reads as door·exchange·record-of-contract
+use Rattle.door.proofs.exchange.counted.Reads as door·exchange·counted-contract
 use Rattle.door.proofs.exchange.answered.Reads as door·exchange·answered-contract
 use Rattle.door.proofs.exchange.weigh_reply.Reads as door·exchange·weigh-reply-contract
 use Rattle.door.proofs.exchange.post.Reads as door·exchange·post-contract
@@ -13,6 +18,7 @@ use Rattle.door.proofs.readings.log_entry.Reads as door·readings·log-entry-co
 use Rattle.door.proofs.readings.place_of.Reads as door·readings·place-of-contract
 use Rattle.door.proofs.readings.result.Reads as door·readings·result-contract
 use Rattle.door.proofs.told.planned_counted.Reads as door·told·planned-counted-contract
+use Rattle.door.proofs.told.answer_refused.Reads as door·told·answer-refused-contract
 use Rattle.door.proofs.told.taken_answer.Reads as door·told·taken-answer-contract
 use Rattle.door.proofs.told.taken_refused.Reads as door·told·taken-refused-contract
 use Rattle.door.proofs.told.taken_place.Reads as door·told·taken-place-contract
@@ -23,6 +29,24 @@ door·exchange·message-of κ a x y e e′ p q = p ∙ sym q
 
 pub door·exchange·judged : Answers door·exchange·judged-contract.Post
 door·exchange·judged κ a x y e e′ p q = p ∙ sym q
+
+pub door·exchange·runs : Answers door·exchange·runs-contract.Post
+door·exchange·runs κ a x y e e′ p q = p ∙ sym q
+
+pub door·exchange·place-in : Answers door·exchange·place-in-contract.Post
+door·exchange·place-in κ a x y e e′ p q = p ∙ sym q
+
+pub door·exchange·committed-of : Answers door·exchange·committed-of-contract.Post
+door·exchange·committed-of κ a x y e e′ p q = p ∙ sym q
+
+pub door·exchange·record-of : Answers door·exchange·record-of-contract.Post
+door·exchange·record-of κ a x y e e′ p q = p ∙ sym q
+
+pub door·exchange·counted : Answers door·exchange·counted-contract.Post
+door·exchange·counted κ a x y e e′ p q = p .0 ∙ sym (q .0)
+
+pub door·exchange·counted·leaves-output : Leaves {B = List ℕ} (λ κ e. e .1 .1 .0 .now) door·exchange·counted-contract.Post
+door·exchange·counted·leaves-output κ a x y e e′ p q = p .1 ∙ sym (q .1)
 
 pub door·exchange·answered : Answers door·exchange·answered-contract.Post
 door·exchange·answered κ a x y e e′ p q = p .0 ∙ sym (q .0)
@@ -53,6 +77,9 @@ door·readings·result κ a x y e e′ p q = p ∙ sym q
 
 pub door·told·planned-counted : Answers door·told·planned-counted-contract.Post
 door·told·planned-counted κ a x y e e′ p q = p ∙ sym q
+
+pub door·told·answer-refused : Answers door·told·answer-refused-contract.Post
+door·told·answer-refused κ a x y e e′ p q = p ∙ sym q
 
 pub door·told·taken-answer : Answers door·told·taken-answer-contract.Post
 door·told·taken-answer κ a x y e e′ p q = p ∙ sym q

@@ -35,14 +35,14 @@ use Rattle.server.specs.Run.{run, runAll}
 use Rattle.server_lent.specs.First.{recordsFresh}
 use Rattle.server_lent.specs.Listed.{fewOf, piecesOf, ranListed, ranPieces, ranPlanned, withCounters}
 use Rattle.server_plan.specs.Planning.{waitingIn}
-use Rattle.server_read.specs.InPlace.{earlierIn, formBegun, formIn}
+use Rattle.server_read.specs.InPlace.{consideredBy, earlierIn, formBegun, formIn}
 use Rattle.server_read.specs.Wanting.{namedIn}
 use Rattle.server_run.specs.Limited.{ranUpTo}
-use Rattle.server_step.specs.OneStore.{considered}
+use Rattle.station.specs.Commits.{committed}
 use Rattle.wire.specs.Encoding.{encode}
 
-pub door·exchange·heard : (s : Server) (d : Decoded) (r r₂ : Considered) → (r ≡ heardOf (s) d) → (r₂ ≡ heardOf (s) d) → r ≡ r₂
-door·exchange·heard s d r r₂ m₁ m₂ = m₁ ∙ sym m₂
+pub door·exchange·heard : (s : Server) (f : Form) (d : Decoded) (r r₂ : Considered) → (r ≡ heardOf (s) f d) → (r₂ ≡ heardOf (s) f d) → r ≡ r₂
+door·exchange·heard s f d r r₂ m₁ m₂ = m₁ ∙ sym m₂
 
 pub drive-lent·hear-lent : (d : Drive) (m : Message) (r r₂ : ℕ) (d′ d′₂ : Drive) → ((r ≡ hear (d) m .refusal) × (d′ ≡ hear (d) m .drive)) → ((r₂ ≡ hear (d) m .refusal) × (d′₂ ≡ hear (d) m .drive)) → (r ≡ r₂) × (d′ ≡ d′₂)
 drive-lent·hear-lent d m r r₂ d′ d′₂ m₁ m₂ = (m₁ .0 ∙ sym (m₂ .0), m₁ .1 ∙ sym (m₂ .1))
@@ -56,8 +56,8 @@ server-lent·first·fresh s id r r₂ s′ s′₂ m₁ m₂ = (m₁ .0 ∙ sym 
 pub server-lent·running·run-pieces : (s : Server) (number : ℕ) (k : ℕ) (many : ℕ) (r r₂ : Values) (s′ s′₂ : Server) → ((r ≡ ranPieces (piecesOf (s) number) k (s .counters) many .values) × (s′ ≡ withCounters (s) (ranPieces (piecesOf (s) number) k (s .counters) many .counters))) → ((r₂ ≡ ranPieces (piecesOf (s) number) k (s .counters) many .values) × (s′₂ ≡ withCounters (s) (ranPieces (piecesOf (s) number) k (s .counters) many .counters))) → (r ≡ r₂) × (s′ ≡ s′₂)
 server-lent·running·run-pieces s number k many r r₂ s′ s′₂ m₁ m₂ = (m₁ .0 ∙ sym (m₂ .0), m₁ .1 ∙ sym (m₂ .1))
 
-pub server-lent·running·run-listed : (s : Server) (p : Plan) (many : ℕ) (r r₂ : ℕ) (s′ s′₂ : Server) → ((r ≡ many) × (s′ ≡ ranListed p (s) many)) → ((r₂ ≡ many) × (s′₂ ≡ ranListed p (s) many)) → (r ≡ r₂) × (s′ ≡ s′₂)
-server-lent·running·run-listed s p many r r₂ s′ s′₂ m₁ m₂ = (m₁ .0 ∙ sym (m₂ .0), m₁ .1 ∙ sym (m₂ .1))
+pub server-lent·running·run-listed : (s : Server) (p : Plan) (log : Log) (many : ℕ) (r r₂ : ℕ) (s′ s′₂ : Server) → ((r ≡ many) × (s′ ≡ ranListed p log (s) many)) → ((r₂ ≡ many) × (s′₂ ≡ ranListed p log (s) many)) → (r ≡ r₂) × (s′ ≡ s′₂)
+server-lent·running·run-listed s p log many r r₂ s′ s′₂ m₁ m₂ = (m₁ .0 ∙ sym (m₂ .0), m₁ .1 ∙ sym (m₂ .1))
 
 pub server-lent·running·run-planned : (s : Server) (p : Plan) (log : Log) (many : ℕ) (r r₂ : ℕ) (s′ s′₂ : Server) → ((r ≡ fewOf many) × (s′ ≡ ranPlanned p log many (s))) → ((r₂ ≡ fewOf many) × (s′₂ ≡ ranPlanned p log many (s))) → (r ≡ r₂) × (s′ ≡ s′₂)
 server-lent·running·run-planned s p log many r r₂ s′ s′₂ m₁ m₂ = (m₁ .0 ∙ sym (m₂ .0), m₁ .1 ∙ sym (m₂ .1))
@@ -74,8 +74,8 @@ server-read·form·form-in s a0 many r r₂ m₁ m₂ = m₁ ∙ sym m₂
 pub server-read·stepping·earlier-in : (s : Server) (a0 : Earlier) (many : ℕ) (r r₂ : Earlier) → (r ≡ earlierIn (s) a0 many) → (r₂ ≡ earlierIn (s) a0 many) → r ≡ r₂
 server-read·stepping·earlier-in s a0 many r r₂ m₁ m₂ = m₁ ∙ sym m₂
 
-pub server-read·stepping·consider : (s : Server) (m : Message) (r r₂ : Considered) → (r ≡ considered (s) m) → (r₂ ≡ considered (s) m) → r ≡ r₂
-server-read·stepping·consider s m r r₂ m₁ m₂ = m₁ ∙ sym m₂
+pub server-read·stepping·consider : (s : Server) (f : Form) (m : Message) (r r₂ : Considered) → (r ≡ consideredBy (s) f m) → (r₂ ≡ consideredBy (s) f m) → r ≡ r₂
+server-read·stepping·consider s f m r r₂ m₁ m₂ = m₁ ∙ sym m₂
 
 pub server-read·wanting·named-in : (s : Server) (a0 : Named) (many : ℕ) (r r₂ : Named) → (r ≡ namedIn (s) a0 many) → (r₂ ≡ namedIn (s) a0 many) → r ≡ r₂
 server-read·wanting·named-in s a0 many r r₂ m₁ m₂ = m₁ ∙ sym m₂
@@ -88,6 +88,9 @@ station·messages·drobulets-encode message output r r₂ output′ output′₂
 
 pub station·servers·drobulets-server-fresh : (s : Server) (id : ℕ) (r r₂ : ℕ) (s′ s′₂ : Server) → ((r ≡ fresh (s) id .refusal) × (s′ ≡ fresh (s) id .server)) → ((r₂ ≡ fresh (s) id .refusal) × (s′₂ ≡ fresh (s) id .server)) → (r ≡ r₂) × (s′ ≡ s′₂)
 station·servers·drobulets-server-fresh s id r r₂ s′ s′₂ m₁ m₂ = (m₁ .0 ∙ sym (m₂ .0), m₁ .1 ∙ sym (m₂ .1))
+
+pub station·servers·commit : (s : Server) (f : Form) (h : Considered) (output : List ℕ) (r r₂ : door·Answer) (s′ s′₂ : Server) (output′ output′₂ : List ℕ) → ((r ≡ committed (s) f h (output) .answer) × (s′ ≡ committed (s) f h (output) .server) × (output′ ≡ committed (s) f h (output) .output)) → ((r₂ ≡ committed (s) f h (output) .answer) × (s′₂ ≡ committed (s) f h (output) .server) × (output′₂ ≡ committed (s) f h (output) .output)) → (r ≡ r₂) × (s′ ≡ s′₂) × (output′ ≡ output′₂)
+station·servers·commit s f h output r r₂ s′ s′₂ output′ output′₂ m₁ m₂ = (m₁ .0 ∙ sym (m₂ .0), m₁ .1 ∙ sym (m₂ .1), m₁ .2 ∙ sym (m₂ .2))
 
 pub station·servers·drobulets-server-take : (s : Server) (input : List ℕ) (output : List ℕ) (r r₂ : door·Answer) (s′ s′₂ : Server) (output′ output′₂ : List ℕ) → ((r ≡ take (s) (input) (output) .answer) × (s′ ≡ take (s) (input) (output) .server) × (output′ ≡ take (s) (input) (output) .output)) → ((r₂ ≡ take (s) (input) (output) .answer) × (s′₂ ≡ take (s) (input) (output) .server) × (output′₂ ≡ take (s) (input) (output) .output)) → (r ≡ r₂) × (s′ ≡ s′₂) × (output′ ≡ output′₂)
 station·servers·drobulets-server-take s input output r r₂ s′ s′₂ output′ output′₂ m₁ m₂ = (m₁ .0 ∙ sym (m₂ .0), m₁ .1 ∙ sym (m₂ .1), m₁ .2 ∙ sym (m₂ .2))

@@ -7,6 +7,7 @@ use Rattle.server_plan.proofs.committed_with.Reads as server-plan·committed-wi
 use Rattle.server_plan.proofs.logged.Reads as server-plan·logged-contract
 use Rattle.server_plan.proofs.planned_log.Reads as server-plan·planned-log-contract
 use Rattle.server_plan.proofs.plan_by.Reads as server-plan·plan-by-contract
+use Rattle.server_plan.proofs.plan_after.Reads as server-plan·plan-after-contract
 use Rattle.server_plan.proofs.planned_plan.Reads as server-plan·planned-plan-contract
 use Rattle.server_plan.proofs.planned_end.Reads as server-plan·planned-end-contract
 use Rattle.server_plan.proofs.planned_many.Reads as server-plan·planned-many-contract
@@ -28,6 +29,9 @@ server-plan·planned-log κ a x y e e′ p q = p ∙ sym q
 
 pub server-plan·plan-by : Answers server-plan·plan-by-contract.Post
 server-plan·plan-by κ a x y e e′ p q = p ∙ sym q
+
+pub server-plan·plan-after : Answers server-plan·plan-after-contract.Post
+server-plan·plan-after κ a x y e e′ p q = p ∙ sym q
 
 pub server-plan·planned-plan : Answers server-plan·planned-plan-contract.Post
 server-plan·planned-plan κ a x y e e′ p q = p ∙ sym q

@@ -2,6 +2,7 @@
 use mathlib.Core.Path.{sym, _∙_}
 use Rattle.outcomes.specs.Once.{Answers}
 use Rattle.server_step.proofs.refusals.refusal_by.Reads as server-step·refusals·refusal-by-contract
+use Rattle.server_step.proofs.refusals.runs_after.Reads as server-step·refusals·runs-after-contract
 use Rattle.server_step.proofs.record.place_of.Reads as server-step·record·place-of-contract
 use Rattle.server_step.proofs.record.looked.Reads as server-step·record·looked-contract
 use Rattle.server_step.proofs.record.came_earlier.Reads as server-step·record·came-earlier-contract
@@ -9,6 +10,9 @@ use Rattle.server_step.proofs.record.change_by.Reads as server-step·record·ch
 
 pub server-step·refusals·refusal-by : Answers server-step·refusals·refusal-by-contract.Post
 server-step·refusals·refusal-by κ a x y e e′ p q = p ∙ sym q
+
+pub server-step·refusals·runs-after : Answers server-step·refusals·runs-after-contract.Post
+server-step·refusals·runs-after κ a x y e e′ p q = p ∙ sym q
 
 pub server-step·record·place-of : Answers server-step·record·place-of-contract.Post
 server-step·record·place-of κ a x y e e′ p q = p ∙ sym q

@@ -29,11 +29,11 @@ use Rattle.server.proofs.Did.{Did, tells, isDone, preAcceptsFirst, preAcceptsAg
 use Rattle.safety.specs.Cluster.{World, Cluster, homeOf, ran, Reaches}
 use Rattle.safety.proofs.Slice.{Holds}
 use Rattle.safety.proofs.View.{recordOf, put-all}
-use Rattle.safety.proofs.Serving.{after, was-sent, all-records}
+use Rattle.safety.proofs.Serving.{after, runs-leave, was-sent, all-records}
 use Rattle.safety.proofs.Kept.{Kept}
 use Rattle.safety.proofs.Changes.{Change, serves, hasRun, sent, quiet}
 use Rattle.rules.proofs.ConflictIs.{conflict-turned}
-use Rattle.safety.proofs.PiecesNamed.{Named, runs-leave}
+use Rattle.safety.proofs.PiecesNamed.{Named}
 
 -- the server z, of shard k, keeps it
 pub record Ordered (w : World) (k : ℕ) (z : Server) : Type 0 where
@@ -58,7 +58,7 @@ did-arrival x (preAcceptsFirst k op n) h = inr (sym (h .is), k, n)
 did-arrival x (preAcceptsAgain k op n) h = inl h
 did-arrival x (accepts k op) h = inl h
 did-arrival x (prepares k op) h = inl h
-did-arrival x (commitsFirst k n) h = inl h
+did-arrival x (commitsFirst j k n) h = inl h
 
 module _ (w : World) (c : Cluster) (k : Kept w c) (na : Named w c) (i id : ℕ) (m : Message) (o : Changed) (rs : Reaches c m) (p : Passed (c .servers i) m) (did : Did id (arrivalFor (c .servers i) m) (recordOf c i (m .t)) m o) where
   abbrev S : Server

@@ -26,14 +26,13 @@ use Rattle.server.specs.Run.{depsOf}
 use Rattle.server.proofs.Passed.{number-below}
 use Rattle.server.proofs.Did.{Did, tells, isDone, preAcceptsFirst, preAcceptsAgain, accepts, prepares, commitsFirst}
 use Rattle.server.proofs.RunKeepsForm.{deps-committed}
-use Rattle.safety.specs.Cluster.{World, Cluster, ran, Reached, fresh, then}
+use Rattle.safety.specs.Cluster.{World, Cluster, atFirst, ran, Reached}
 use Rattle.safety.proofs.Agreement.{chosen-agree}
 use Rattle.safety.proofs.View.{recordOf, CommitOf, put-all}
-use Rattle.safety.proofs.Serving.{was-sent, all-records}
+use Rattle.safety.proofs.Serving.{runs-leave, was-sent, all-records}
 use Rattle.safety.proofs.Kept.{Kept}
-use Rattle.safety.proofs.Histories.{at-first, reached-kept}
-use Rattle.safety.proofs.Changes.{Change, serves, hasRun, sent, quiet, change-of}
-use Rattle.safety.proofs.PiecesNamed.{runs-leave}
+use Rattle.safety.proofs.Histories.{at-first}
+use Rattle.safety.proofs.Changes.{Change, serves, hasRun, sent, quiet, always}
 use Rattle.safety.proofs.LogsInOrder.{More}
 use Rattle.safety.proofs.RunsInOrder.{Holds}
 
@@ -61,7 +60,7 @@ sent-stays w (hasRun i q rn) r h = h
 sent-stays w (sent j d m at du) r h = List·Memᴰ·tail h
 sent-stays w (quiet q) r h = subst (List·Memᴰ r) (sym (q .sent)) h
 
-abbrev CommitsSent : Cluster → Type 0
+abbrev pub CommitsSent : Cluster → Type 0
 CommitsSent c = (s t : ℕ) → committedAt (c .servers s) t ≡ true → SentCommit c t
 
 -- a record became committed by a Commit or Done
@@ -72,9 +71,9 @@ did-commit (preAcceptsFirst k op n) h = inl h
 did-commit (preAcceptsAgain k op n) h = inl h
 did-commit (accepts k op) h = inl h
 did-commit (prepares k op) h = inl h
-did-commit (commitsFirst k n) h = inr k
+did-commit (commitsFirst j k n) h = inr k
 
-commits-kept : (w : World) {c c′ : Cluster} → Kept w c → Change w c c′ → CommitsSent c → CommitsSent c′
+pub commits-kept : (w : World) {c c′ : Cluster} → Kept w c → Change w c c′ → CommitsSent c → CommitsSent c′
 unfolding ran
 commits-kept w {c} {c′} k (serves i m o rs p did) h =
     all-records c i (m .t) o (let n = number-below m (p .numbers) in omega (arith, k .sizes .records i)) (λ s t v. there (v .committed .some) ≡ true → SentCommit c′ t)
@@ -89,9 +88,11 @@ commits-kept w {c} {c′} k (hasRun i r rn) h = λ s t. put-all (λ s (z : Serve
 commits-kept w {c} {c′} k (sent j d m at du) h = λ s t e. more-sent {c = c} {c′ = c′} (λ r q. List·Memᴰ·tail q) (h s t e)
 commits-kept w {c} {c′} k (quiet q) h = λ s t e. more-sent {c = c} {c′ = c′} (λ r x. subst (List·Memᴰ r) (sym (q .sent)) x) (h s t (subst (λ (z : Server). committedAt z t ≡ true) (q .servers s) e))
 
-commits-sent : (w : World) {c : Cluster} → Reached w c → CommitsSent c
-commits-sent w fresh = λ s t e. absurd (at-first w (λ (v : Record). there (v .committed .some) ≡ true → ⊥) (λ e. true≢false (sym e)) (λ e. true≢false (sym e)) s t e)
-commits-sent w (then r s) = commits-kept w (reached-kept w r) (change-of w s) (commits-sent w r)
+pub first-commits : (w : World) → CommitsSent (atFirst w)
+first-commits w s t e = absurd (at-first w (λ (v : Record). there (v .committed .some) ≡ true → ⊥) (λ e. true≢false (sym e)) (λ e. true≢false (sym e)) s t e)
+
+pub commits-sent : (w : World) {c : Cluster} → Reached w c → CommitsSent c
+commits-sent w r = always w CommitsSent (λ c c′ k k′ ch. commits-kept w k ch) (first-commits w) r
 
 -- ---- what each number depends on
 
@@ -122,34 +123,34 @@ committed-small w c k s t e = go (decLt t 64)
     go (yes l) = l
     go (no l) = absurd (true≢false (sym e ∙ ap (λ (v : Record). there (v .committed .some)) (List·getD-eq-default (c .servers s .records) noRecord (subst (λ n. n ≤ t) (sym (k .sizes .records s)) (omega arith)))))
 
-module _ (w : World) (c : Cluster) (r : Reached w c) where
+module _ (w : World) (c : Cluster) (k : Kept w c) where
   -- all that is committed of t, in a message or at a server, is one set
   one-set : (t : ℕ) (v v′ : Set) → CommitOf c t v → CommitOf c t v′ → v ≡ v′
-  one-set t v v′ h h′ = let l = reached-kept w r .lawful t in chosen-agree l (l .committed .each v h) (l .committed .each v′ h′)
+  one-set t v v′ h h′ = let l = k .lawful t in chosen-agree l (l .committed .each v h) (l .committed .each v′ h′)
 
   said : {t : ℕ} (a : SentCommit c t) → CommitOf c t (a .message .set)
   said a = CommitOf.sent (a .message) (a .within) (a .commits) (a .number) refl
 
   deps-sent : (t : ℕ) → t < 64 → (a : SentCommit c t) → getD (allDeps c) t 0 ≡ members (a .message .set)
   unfolding allDeps
-  deps-sent t q a = getD-tab (sentDeps (c .sent)) 64 t 0 q ∙ sent-deps t (a .message .set) (c .sent) (λ m k e n. one-set t _ _ (CommitOf.sent m k e n refl) (said a)) (a .message) (a .within) (a .commits) (a .number)
+  deps-sent t q a = getD-tab (sentDeps (c .sent)) 64 t 0 q ∙ sent-deps t (a .message .set) (c .sent) (λ m h e n. one-set t _ _ (CommitOf.sent m h e n refl) (said a)) (a .message) (a .within) (a .commits) (a .number)
 
-  pub deps-held : (s t : ℕ) → committedAt (c .servers s) t ≡ true → getD (allDeps c) t 0 ≡ members (recordOf c s t .committed .set)
-  deps-held s t e =
-      let a = commits-sent w r s t e in
-      deps-sent t (committed-small w c (reached-kept w r) s t e) a ∙ ap members (one-set t _ _ (said a) (CommitOf.held s e refl))
+  pub deps-held : CommitsSent c → (s t : ℕ) → committedAt (c .servers s) t ≡ true → getD (allDeps c) t 0 ≡ members (recordOf c s t .committed .set)
+  deps-held h s t e =
+      let a = h s t e in
+      deps-sent t (committed-small w c k s t e) a ∙ ap members (one-set t _ _ (said a) (CommitOf.held s e refl))
 
   -- a server's dependencies are among them
-  pub server-more : (s : ℕ) → More (depsOf (c .servers s)) (allDeps c) (Holds (c .servers s)) (SentCommit c)
-  server-more s = record {
-    still = λ t e. commits-sent w r s t e;
-    same = λ t e. deps-held s t e ∙ sym (deps-committed (c .servers s) t (committed-small w c (reached-kept w r) s t e) e);
+  pub server-more : CommitsSent c → (s : ℕ) → More (depsOf (c .servers s)) (allDeps c) (Holds (c .servers s)) (SentCommit c)
+  server-more h s = record {
+    still = λ t e. h s t e;
+    same = λ t e. deps-held h s t e ∙ sym (deps-committed (c .servers s) t (committed-small w c k s t e) e);
   }
 
 -- a step leaves them
-pub step-more : (w : World) (c c′ : Cluster) → Reached w c → Reached w c′ → Change w c c′ → More (allDeps c) (allDeps c′) (SentCommit c) (SentCommit c′)
+pub step-more : (w : World) (c c′ : Cluster) → Kept w c → Kept w c′ → Change w c c′ → More (allDeps c) (allDeps c′) (SentCommit c) (SentCommit c′)
 unfolding allDeps more-sent
-step-more w c c′ r r′ ch = record {
+step-more w c c′ k k′ ch = record {
   still = λ t a. more-sent {c = c} {c′ = c′} (sent-stays w ch) a;
   same = λ t a. go t a (decLt t 64);
 }
@@ -158,5 +159,5 @@ step-more w c c′ r r′ ch = record {
     past l t h = List·getD-eq-default (tab (sentDeps l) 64) 0 (subst (λ n. n ≤ t) (sym (length-tab (sentDeps l) 64)) h)
 
     go : (t : ℕ) → SentCommit c t → Dec (t < 64) → getD (tab (sentDeps (c′ .sent)) 64) t 0 ≡ getD (tab (sentDeps (c .sent)) 64) t 0
-    go t a (yes q) = deps-sent w c′ r′ t q (more-sent {c = c} {c′ = c′} (sent-stays w ch) a) ∙ sym (deps-sent w c r t q a)
+    go t a (yes q) = deps-sent w c′ k′ t q (more-sent {c = c} {c′ = c′} (sent-stays w ch) a) ∙ sym (deps-sent w c k t q a)
     go t a (no q) = past (c′ .sent) t (omega arith) ∙ sym (past (c .sent) t (omega arith))

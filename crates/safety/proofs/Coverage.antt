@@ -13,21 +13,21 @@ use Rattle.rules.specs.Conflict.{conflict}
 use Rattle.rules.specs.Sets.{word}
 use Rattle.server.specs.declared.Record.{Record}
 use Rattle.drive.proofs.QuorumOfTwo.{shard-below}
-use Rattle.safety.specs.Cluster.{World, Cluster, atFirst, Reached, fresh, then}
+use Rattle.safety.specs.Cluster.{World, Cluster, atFirst, Reached}
 use Rattle.safety.specs.Statements.{Committed, Coverage}
 use Rattle.safety.proofs.Quorum.{Maj, InShard, maj-meet, in-home}
 use Rattle.safety.proofs.Slice.{Part, Sub}
 use Rattle.safety.proofs.Agreement.{chosen-covers}
 use Rattle.safety.proofs.View.{CommitOf, sliceOf, touchedOf}
 use Rattle.safety.proofs.Histories.{at-first, reached-kept}
-use Rattle.safety.proofs.Changes.{change-of}
+use Rattle.safety.proofs.Changes.{always}
 use Rattle.safety.proofs.Conflicts.{conflict-touches}
 use Rattle.rules.proofs.ConflictIs.{conflict-turned}
 use Rattle.safety.proofs.PiecesNamed.{NamedRecord, Named, named-kept}
 use Rattle.safety.proofs.ArrivalOrder.{ArrivalOrder, order-kept}
 
 module _ (w : World) where
-  first-named : Named w (atFirst w)
+  pub first-named : Named w (atFirst w)
   unfolding atFirst
   first-named = record {
     records = λ s t. at-first w (λ v. NamedRecord w t v)
@@ -38,16 +38,14 @@ module _ (w : World) where
   }
 
   pub reached-named : {c : Cluster} → Reached w c → Named w c
-  reached-named fresh = first-named
-  reached-named (then r s) = named-kept w (reached-kept w r) (change-of w s) (reached-named r)
+  reached-named r = always w (Named w) (λ c c′ k k′ ch. named-kept w k ch) first-named r
 
   first-ordered : ArrivalOrder w (atFirst w)
   unfolding atFirst
   first-ordered s = record { each = λ t u x y ne h. absurd (at-first w (λ (v : Record). there (v .arrival .some) ≡ true → ⊥) (λ e. true≢false (sym e)) (λ e. true≢false (sym e)) s t (h .some)) }
 
   pub reached-ordered : {c : Cluster} → Reached w c → ArrivalOrder w c
-  reached-ordered fresh = first-ordered
-  reached-ordered (then r s) = order-kept w (reached-kept w r) (reached-named r) (change-of w s) (reached-ordered r)
+  reached-ordered r = always w (λ c. Named w c × ArrivalOrder w c) (λ c c′ k k′ ch h. (named-kept w k ch (h .0), order-kept w k (h .0) ch (h .1))) (first-named, first-ordered) r .1
 
   pub coverage : (c : Cluster) → Reached w c → Coverage w c
   coverage c r s s′ t u k v v′ h h′ ne cf = go (maj-meet (parts _ t k v h here) (parts _ u k v′ h′ (touched _ u t k v′ h′ (conflict-turned k (w .pieces t) (w .pieces u) cf))))

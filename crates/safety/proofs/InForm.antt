@@ -33,23 +33,24 @@ use Rattle.safety.specs.Cluster.{World, Cluster, put, idOf, firstServer,
 use Rattle.safety.specs.Statements.{InForm}
 use Rattle.safety.proofs.Agreement.{chosen-covers}
 use Rattle.safety.proofs.View.{CommitOf, recordOf, put-all}
+use Rattle.safety.proofs.Serving.{Runs, once, out, idle}
 use Rattle.safety.proofs.Kept.{Kept}
 use Rattle.safety.proofs.DrivesKeep.{AtStation, here, other, at-station}
 use Rattle.safety.proofs.Histories.{reached-kept}
-use Rattle.safety.proofs.Changes.{Runs, once, out, Change, serves, hasRun, sent, quiet, change-of}
+use Rattle.safety.proofs.Changes.{Change, serves, hasRun, sent, quiet, always}
 
 -- ---- the servers
 
 -- the committed sets have words of 64 digits
+committed-fits : (w : World) (c : Cluster) → Kept w c → (s t k : ℕ) → committedAt (c .servers s) t ≡ true → k < 4 → word (recordAt (c .servers s) t .committed .set) k < 2 ^ 64
+committed-fits w c k s t j e h = let l = k .lawful t in chosen-covers l (l .committed .each (recordOf c s t .committed .set) (CommitOf.held s e refl)) .fits j h
+
 pub deps-fit : (w : World) (c : Cluster) → Kept w c → (s : ℕ) → Words (depsOf (c .servers s))
 unfolding depsOf depsAt members
 deps-fit w c k s t = go (decLt t 64)
   where
     fits : (b : Bool) → committedAt (c .servers s) t ≡ b → cond b (members (recordAt (c .servers s) t .committed .set)) 0 < 2 ^ 64
-    fits true e =
-        let l = k .lawful t in
-        let v = recordOf c s t .committed .set in
-        unions-bound (word v) 4 64 (chosen-covers l (l .committed .each v (CommitOf.held s e refl)) .fits)
+    fits true e = unions-bound (word (recordOf c s t .committed .set)) 4 64 (λ j h. committed-fits w c k s t j e h)
     fits false e = pow-pos 64
 
     go : Dec (t < 64) → getD (tab (depsAt (c .servers s)) 64) t 0 < 2 ^ 64
@@ -68,9 +69,10 @@ sound-of w c k s f = record { memory = record { records = k .sizes .records s; l
 
 runs-formal : {s : Server} {r : Ran} → Runs s r → Sound s → Formal (r .server)
 runs-formal {s} once h = let z = run-sound s h in record { form = z .form; places = z .memory .log }
+runs-formal (idle n) h = record { form = h .form; places = h .memory .log }
 runs-formal {s} out h = let z = runAll-sound s h in record { form = z .form; places = z .memory .log }
 
-formal-kept : (w : World) {c c′ : Cluster} → Kept w c → Change w c c′ → AllFormal c → AllFormal c′
+pub formal-kept : (w : World) {c c′ : Cluster} → Kept w c → Change w c c′ → AllFormal c → AllFormal c′
 unfolding ran
 formal-kept w {c} k (serves i m o rs p did) f =
     put-all (λ s z. Formal z) (c .servers) i _ (record { form = after-form (c .servers i) m o p did (k .sizes .records i); places = f i .places }) f
@@ -79,15 +81,14 @@ formal-kept w k (sent j d m at du) f = f
 formal-kept w k (quiet q) f = λ s. subst Formal (sym (q .servers s)) (f s)
 
 module _ (w : World) where
-  first-formal : AllFormal (atFirst w)
+  pub first-formal : AllFormal (atFirst w)
   unfolding atFirst firstServer freshServer
   first-formal s =
       let z = fresh-sound (idOf s) (atFirst w .servers s .counters) (le-ltb 11 (idOf s) (omega arith)) in
       record { form = z .form; places = z .memory .log }
 
   pub reached-formal : {c : Cluster} → Reached w c → AllFormal c
-  reached-formal fresh = first-formal
-  reached-formal (then r s) = formal-kept w (reached-kept w r) (change-of w s) (reached-formal r)
+  reached-formal r = always w AllFormal (λ c c′ k k′ ch. formal-kept w k ch) first-formal r
 
 -- ---- the drives
 
@@ -144,5 +145,6 @@ in-form w c r = record {
   servers = λ s. parts-formed (c .servers s) (reached-formal w r s .form);
   records = reached-kept w r .sizes .records;
   places = λ s. reached-formal w r s .places;
+  words = λ s t k e l. committed-fits w c (reached-kept w r) s t k e l;
   drives = reached-drives w r;
 }

@@ -1,3 +1,4 @@
+pub mod Lists
 pub mod Quorum
 pub mod Slice
 pub mod Summary
@@ -28,13 +29,14 @@ pub mod ArrivalOrder
 pub mod Coverage
 pub mod InForm
 pub mod NeverOther
-pub mod Lists
+pub mod NothingLeft
 pub mod Places
 pub mod LogsInOrder
 pub mod RunsInOrder
 pub mod LogOrders
 pub mod CommitsSent
 pub mod OneOrder
+pub mod Unchanged
 pub mod Sifting
 pub mod Replays
 pub mod EqualCounters

@@ -139,6 +139,12 @@ unfolding firsts
 firsts-new o (t ∷ l) u (List·Memᴰ·head e) = firsts-old (noting t o) l u (subst (λ x. List·Memᴰ x (noting t o)) (sym e) (noted-new (noted t o)))
 firsts-new o (t ∷ l) u (List·Memᴰ·tail k) = firsts-new (noting t o) l u k
 
+-- what is in the order already does not move it
+pub firsts-known : (o l : List ℕ) → ((t : ℕ) → List·Memᴰ t l → List·Memᴰ t o) → firsts o l ≡ o
+unfolding firsts noting
+firsts-known o [] f = refl
+firsts-known o (t ∷ l) f = ap (λ (b : Bool). firsts (cond b o (o ++ (t ∷ []))) l) (in-listed t o (f t (List·Memᴰ·head refl))) ∙ firsts-known o l (λ u k. f u (List·Memᴰ·tail k))
+
 pub firsts-from : (o l : List ℕ) (u : ℕ) → List·Memᴰ u (firsts o l) → List·Memᴰ u o ⊎ List·Memᴰ u l
 unfolding firsts
 firsts-from o [] u h = inl h

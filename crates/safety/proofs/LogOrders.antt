@@ -21,12 +21,12 @@ use Rattle.server.proofs.RunLeaves.{set-either}
 use Rattle.server.proofs.ServeKeepsForm.{did-committed}
 use Rattle.server.proofs.RunKeepsForm.{deps-at}
 use Rattle.safety.specs.Orders.{entries}
-use Rattle.safety.specs.Cluster.{World, Cluster, firstServer, atFirst, ran, Reached, fresh, then}
+use Rattle.safety.specs.Cluster.{World, Cluster, firstServer, atFirst, ran, Reached}
 use Rattle.safety.proofs.View.{put-all}
+use Rattle.safety.proofs.Serving.{Runs, once, out, idle}
 use Rattle.safety.proofs.Kept.{Kept}
-use Rattle.safety.proofs.Histories.{reached-kept}
-use Rattle.safety.proofs.Changes.{Runs, once, out, Change, serves, hasRun, sent, quiet, change-of}
-use Rattle.safety.proofs.InForm.{AllFormal, sound-of, reached-formal}
+use Rattle.safety.proofs.Changes.{Change, serves, hasRun, sent, quiet, always}
+use Rattle.safety.proofs.InForm.{AllFormal, sound-of, formal-kept, first-formal}
 use Rattle.safety.proofs.Lists.{earlier-nil}
 use Rattle.safety.proofs.LogsInOrder.{InOrder, more-order}
 use Rattle.safety.proofs.RunsInOrder.{Holds, Orderly, run-orderly, runAll-orderly}
@@ -54,9 +54,10 @@ LogOrders c = (s : ℕ) → LogOrder (c .servers s)
 
 runs-order : {s : Server} {r : Ran} → Runs s r → Orderly s → LogOrder (r .server)
 runs-order {s} once h = run-orderly s h .order
+runs-order (idle n) h = h .order
 runs-order {s} out h = runAll-orderly s h .order
 
-logs-kept : (w : World) {c c′ : Cluster} → Kept w c → AllFormal c → Change w c c′ → LogOrders c → LogOrders c′
+pub logs-kept : (w : World) {c c′ : Cluster} → Kept w c → AllFormal c → Change w c c′ → LogOrders c → LogOrders c′
 unfolding ran
 logs-kept w {c} k f (serves i m o rs p did) lo =
     put-all (λ s z. LogOrder z) (c .servers) i _
@@ -70,10 +71,9 @@ logs-kept w k f (sent j d m at du) lo = lo
 logs-kept w k f (quiet q) lo = λ s. subst LogOrder (sym (q .servers s)) (lo s)
 
 module _ (w : World) where
-  first-logs : LogOrders (atFirst w)
+  pub first-logs : LogOrders (atFirst w)
   unfolding atFirst firstServer freshServer entries
   first-logs s = record { committed = λ t m. absurd (List·Memᴰ·not-nil m); before = λ t u m. absurd (List·Memᴰ·not-nil m); order = λ t u m. absurd (earlier-nil m); once = λ t m. earlier-nil m }
 
   pub reached-logs : {c : Cluster} → Reached w c → LogOrders c
-  reached-logs fresh = first-logs
-  reached-logs (then r s) = logs-kept w (reached-kept w r) (reached-formal w r) (change-of w s) (reached-logs r)
+  reached-logs r = always w (λ c. AllFormal c × LogOrders c) (λ c c′ k k′ ch h. (formal-kept w k ch (h .0), logs-kept w k (h .0) ch (h .1))) (first-formal w, first-logs) r .1

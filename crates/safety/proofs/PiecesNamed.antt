@@ -20,18 +20,17 @@ use Rattle.server.specs.declared.Changed.{Changed}
 use Rattle.server.specs.declared.Record.{Record}
 use Rattle.server.specs.declared.Server.{Server}
 use Rattle.server.specs.Held.{recordAt}
-use Rattle.server.specs.declared.Ran.{Ran}
 use Rattle.server.proofs.Passed.{number-below}
 use Rattle.server.proofs.Did.{Did, tells, isDone, preAcceptsFirst, preAcceptsAgain, accepts, prepares, commitsFirst}
-use Rattle.server.proofs.RunLeaves.{SameHeld, Leaves, run-leaves, runAll-leaves}
+use Rattle.server.proofs.RunLeaves.{SameHeld}
 use Rattle.drive.specs.declared.Drive.{Drive}
 use Rattle.safety.specs.Cluster.{World, Cluster, ran, Reaches}
 use Rattle.safety.proofs.View.{recordOf, put-all}
-use Rattle.safety.proofs.Serving.{after, was-sent, all-records}
+use Rattle.safety.proofs.Serving.{after, runs-leave, was-sent, all-records}
 use Rattle.safety.proofs.DriveIn.{DriveIn}
 use Rattle.safety.proofs.Kept.{Kept}
 use Rattle.safety.proofs.SendsKeep.{Due, duePrepare, duePreAccept, dueAccept, dueCommit}
-use Rattle.safety.proofs.Changes.{Runs, once, out, Change, serves, hasRun, sent, quiet}
+use Rattle.safety.proofs.Changes.{Change, serves, hasRun, sent, quiet}
 
 -- what a record of t holds is of t's transaction
 pub record NamedRecord (w : World) (t : ℕ) (v : Record) : Type 0 where
@@ -91,7 +90,7 @@ module _ (w : World) (c : Cluster) (na : Named w c) (i id x : ℕ) (m : Message)
   did-named h (preAcceptsAgain k op n) = opened (asked-pieces (inl k)) (op .uncommitted)
   did-named h (accepts k op) = opened (asked-pieces (inr (inl k))) (op .uncommitted)
   did-named h (prepares k op) = opened (asked-pieces (inr (inr k))) (op .uncommitted)
-  did-named h (commitsFirst k n) =
+  did-named h (commitsFirst j k n) =
       let e = commit-pieces (commit-code k) in
       record { any = λ z. e; arrived = λ z. e; committed = λ z. e; kept = λ z. commit-kept h (commit-code k) }
 
@@ -103,7 +102,7 @@ module _ (w : World) (c : Cluster) (na : Named w c) (i id x : ℕ) (m : Message)
   did-reply (preAcceptsAgain k op n) h = absurd (false≢true h)
   did-reply (accepts k op) h = absurd (false≢true h)
   did-reply (prepares k op) h = absurd (false≢true h)
-  did-reply (commitsFirst k n) h = absurd (false≢true h)
+  did-reply (commitsFirst j k n) h = absurd (false≢true h)
 
 -- ---- kept by every step
 
@@ -112,10 +111,6 @@ due-named di duePrepare = di .named
 due-named di duePreAccept = di .named
 due-named di (dueAccept p) = di .named
 due-named di (dueCommit p) = di .named
-
-pub runs-leave : {s : Server} {r : Ran} → Runs s r → Leaves s (r .server)
-runs-leave {s} once = run-leaves s
-runs-leave {s} out = runAll-leaves s
 
 pub named-kept : (w : World) {c c′ : Cluster} → Kept w c → Change w c c′ → Named w c → Named w c′
 unfolding ran

@@ -4,13 +4,14 @@ use mathlib.Core.Logic.{_⊎_, inl, inr, _≢_}
 use mathlib.Core.Bool.{true, not, _&&_}
 use mathlib.Core.Option.{some}
 use mathlib.Core.List.{List, _++_, List·Memᴰ}
-use Prim.Native.Nat.{ℕ, zero, suc, _≤_, _<_}
+use Prim.Native.Nat.{ℕ, zero, suc, _^_, _≤_, _<_}
 use native.Mathlib.Omega.{arith}
 use borrow.Author.Tests.{leb-true, leb-false, ne-eqb}
 use lib.Dec.{leb}
 use lib.ListN.{length, getD, length-append, List·getD-append}
 use Rattle.masks.specs.Bits.{bit, In}
 use Rattle.masks.proofs.Bools.{and-yes-l, and-yes-r, true-and-false, not-yes}
+use Rattle.masks.proofs.Laws.{in-lt}
 use Rattle.masks.proofs.FoldLaws.{any-at}
 use Rattle.rules.specs.declared.Set.{Set}
 use Rattle.rules.specs.declared.Values.{Values}
@@ -21,13 +22,18 @@ use Rattle.rules.specs.Values.{noValue}
 use Rattle.rules.specs.Sets.{word}
 use Rattle.rules.specs.Conflict.{conflict}
 use Rattle.rules.proofs.PiecesKept.{kept-is}
+use Rattle.rules.proofs.SetLaws.{in-members}
 use Rattle.rules.proofs.ConflictIs.{on-is, shares-conflict}
 use Rattle.wire.specs.Messages.{inquire, fetch}
 use Rattle.wire.specs.declared.Message.{Message}
 use Rattle.counters.specs.declared.Counters.{Counters}
 use Rattle.counters.specs.Effects.{counterAt}
-use Rattle.server.specs.Held.{recordAt, entryAt}
-use Rattle.server.proofs.FormParts.{Formed, formed-parts, some-logged}
+use Rattle.graph.specs.Before.{Before, direct, behind}
+use Rattle.server.specs.declared.Ran.{Ran}
+use Rattle.server.specs.Held.{recordAt, entryAt, committedWord}
+use Rattle.server.specs.Run.{depsOf}
+use Rattle.server.proofs.FormParts.{Formed, formed-parts, logged-some, some-logged}
+use Rattle.server.proofs.RunKeepsForm.{deps-committed, committed-in}
 use Rattle.drive.specs.declared.Drive.{Drive}
 use Rattle.drive.specs.Form.{numbersFormed}
 use Rattle.drive.proofs.FormParts as D
@@ -35,7 +41,7 @@ use Rattle.safety.specs.Orders.{entries, Earlier, completed}
 use Rattle.safety.specs.Cluster.{World, Cluster, Reaches, Reached, then}
 use Rattle.safety.specs.Statements.{Committed, logOf, SameRan, Safe}
 use Rattle.safety.specs.Plain as P
-use Rattle.safety.specs.Plain.{setAt, wordAt, digit, HeldAt, LoggedAt, LoggedBefore, PieceOn, OneKey, SameWords, OneHasTheOther, NeverTurned, OneList, RanTheSame, NotRefused, SentIsTaken, NoBadForm, ServerKept, DriveKept, Later, OrderStays, Plain}
+use Rattle.safety.specs.Plain.{setAt, wordAt, digit, HeldAt, LoggedAt, LoggedBefore, PieceOn, OneKey, SameWords, OneHasTheOther, NeverTurned, OneList, RanTheSame, NotRefused, SentIsTaken, NoBadForm, ServerKept, NothingWaits, DriveKept, Later, OrderStays, Plain}
 use Rattle.safety.proofs.Lists.{completed-grows}
 use Rattle.safety.proofs.Places.{mem-place, earlier-places, one-place, take-mem, mem-take, take-earlier, all-numbers}
 use Rattle.safety.proofs.Theorem.{safety}
@@ -164,6 +170,7 @@ module _ (w : World) (c : Cluster) (r : Reached w c) where
     all = λ t l. let p = mem-place W 64 t (safe .oneOrder .all t l) in let h = p .1 in (p .0, omega (arith, whole), p .2);
     once = λ p q h k e. let z = same-place p q (omega arith) k e in omega arith;
     pairs = λ s k t a u b l q n n′ o h. pair s k t a u b o h;
+    ran = λ s t l h. mem-place (c .order) 64 t (safe .oneOrder .ran s t (logged-in s t h));
     begins = λ p h. let g = completed-grows (c .order) 64 in ap (λ (z : List ℕ). getD z p 64) (g .1) ∙ List·getD-append (c .order) (g .0) 64 p h;
   }
 
@@ -212,12 +219,41 @@ module _ (w : World) (c : Cluster) (r : Reached w c) where
   server-kept : (s : ℕ) → s < 12 → ServerKept c s
   server-kept s l = record {
     records = safe .inForm .records s;
+    words = λ t k n q h. subst (λ x. x < 2 ^ 64) (word-at (setAt c s t) k q) (safe .inForm .words s t k (flagged h) q);
     places = safe .inForm .places s;
     count = form s .count;
     below = λ i h. let e = form s .entries i h .small in omega arith;
     held = λ i h. not-zero (form s .entries i h .committed);
     ran = λ i h. let e = form s .entries i h .small in not-zero (form s .results (entryAt (c .servers s .log) i) (omega arith) .ran ∙ some-logged (c .servers s .log) (c .servers s .log .count) _ i h refl e);
     once = λ i j h k e. true-and-false (some-logged (c .servers s .log) j _ i h e (form s .entries j k .small)) (form s .entries j k .new);
+  }
+
+  -- numbers that are held as committed at s and name none but each other
+  module _ (s : ℕ) (C : ℕ → Type 0) (small : (t : ℕ) → C t → t < 64) (held : (t : ℕ) → C t → HeldAt c s t) (named : (t u k : ℕ) → C t → u < 64 → k < 4 → digit (wordAt (setAt c s t) k) u ≡ 1 → C u) where
+    names : (t u : ℕ) → C t → In (getD (depsOf (c .servers s)) t 0) u → C u
+    names t u q i =
+        let h = flagged (held t q) in
+        let m = in-members (setAt c s t) u (subst (λ x. In x u) (deps-committed (c .servers s) t (small t q) h) i) in
+        named t u (m .0) q (in-lt 64 (safe .inForm .words s t (m .0) h (m .1)) (m .2)) (m .1) (digit-of (setAt c s t) (m .0) u (m .1) (m .2))
+
+    before : (t u : ℕ) → C t → Before (depsOf (c .servers s)) u t → C u
+    before t u q (direct i) = names t u q i
+    before t u q (behind {v = v} i b) = before v u (names t v q i) b
+
+    too : (t : ℕ) → C t → In (committedWord (c .servers s)) t
+    too t q = committed-in (c .servers s) t (small t q) (flagged (held t q))
+
+    all-ran : (t : ℕ) → C t → LoggedAt c s t
+    all-ran t q =
+        let e = safe .nothingLeft .closed s t (record { self = too t q; all = λ u b. too u (before t u q b) }) in
+        let p = logged-some (c .servers s .log) (c .servers s .log .count) t (sym (form s .results t (small t q) .ran) ∙ e) in
+        record { place = p .0; counted = p .1; is = p .2 }
+
+  nothing-waits : (s : ℕ) → s < 12 → NothingWaits c s
+  nothing-waits s l = record {
+    closed = all-ran s;
+    runs = let e = safe .nothingLeft .runs s in (ap (λ (r : Ran). r .refusal) e, ap (λ (r : Ran). r .many) e, ap (λ (r : Ran). r .server) e);
+    runsOut = let e = safe .nothingLeft .runsOut s in (ap (λ (r : Ran). r .refusal) e, ap (λ (r : Ran). r .many) e, ap (λ (r : Ran). r .server) e);
   }
 
   drive-kept : (j : ℕ) (d : Drive) → c .stations j ≡ some d → DriveKept d
@@ -263,6 +299,7 @@ plain w = record {
   sentIsTaken = sent-is-taken w;
   noBadForm = no-bad-form w;
   serverKept = server-kept w;
+  nothingWaits = nothing-waits w;
   driveKept = drive-kept w;
   orderStays = λ c c′ r l. order-stays w c r l;
 }

@@ -27,16 +27,16 @@ use Rattle.server.proofs.RunsOneByOne.{May, ran-keeps, Logs, logs-more, list-mo
 use Rattle.server.proofs.RunKeepsForm.{Sound, logs-formed, group-sound, way}
 use Rattle.server.proofs.ServeKeepsForm.{did-committed}
 use Rattle.safety.specs.Orders.{entries}
-use Rattle.safety.specs.Cluster.{World, Cluster, homeOf, firstServer, atFirst, ran, Reached, fresh, then}
+use Rattle.safety.specs.Cluster.{World, Cluster, homeOf, firstServer, atFirst, ran, Reached}
 use Rattle.safety.proofs.View.{put-all}
+use Rattle.safety.proofs.Serving.{Runs, once, out, idle}
 use Rattle.safety.proofs.Kept.{Kept}
-use Rattle.safety.proofs.Histories.{reached-kept}
-use Rattle.safety.proofs.Changes.{Runs, once, out, Change, serves, hasRun, sent, quiet, change-of}
-use Rattle.safety.proofs.Coverage.{reached-named}
-use Rattle.safety.proofs.PiecesNamed.{Named}
-use Rattle.safety.proofs.InForm.{AllFormal, sound-of, reached-formal}
+use Rattle.safety.proofs.Changes.{Change, serves, hasRun, sent, quiet, always}
+use Rattle.safety.proofs.Coverage.{first-named}
+use Rattle.safety.proofs.PiecesNamed.{Named, named-kept}
+use Rattle.safety.proofs.InForm.{AllFormal, sound-of, formal-kept, first-formal}
 use Rattle.safety.proofs.RunsInOrder.{entries-word}
-use Rattle.safety.proofs.LogOrders.{LogOrders, reached-logs}
+use Rattle.safety.proofs.LogOrders.{LogOrders, logs-kept, first-logs}
 use Rattle.safety.proofs.Sifting.{until, until-old, until-new}
 
 -- the counters of shard k after the transactions of a list
@@ -129,6 +129,7 @@ runs-replayed w k {z} once h = go (formed z)
     go : (b : Bool) → Replayed w k ((cond b (turn z (nextRun z)) (ranNone z 13)) .server)
     go true = group-standing w k z h .replayed
     go false = h .replayed
+runs-replayed w k (idle n) h = h .replayed
 runs-replayed w k {z} out h = go (formed z)
   where
     go : (b : Bool) → Replayed w k ((cond b (ranFrom z (turns 64 z)) (ranNone z 13)) .server)
@@ -162,6 +163,20 @@ first-replayed : (w : World) → AllReplayed w (atFirst w)
 unfolding atFirst firstServer freshServer entries replay
 first-replayed w s = record { counters = refl; results = λ u h. absurd (List·Memᴰ·not-nil h) }
 
+-- with all that it needs of the cluster before
+record Known (w : World) (c : Cluster) : Type 0 where
+  named : Named w c
+  formal : AllFormal c
+  logs : LogOrders c
+  replayed : AllReplayed w c
+
+known-kept : (w : World) {c c′ : Cluster} → Kept w c → Kept w c′ → Change w c c′ → Known w c → Known w c′
+known-kept w k k′ ch h = record {
+  named = named-kept w k ch (h .named);
+  formal = formal-kept w k ch (h .formal);
+  logs = logs-kept w k (h .formal) ch (h .logs);
+  replayed = replayed-kept w k (h .named) (h .formal) (h .logs) ch (h .replayed);
+}
+
 pub reached-replayed : (w : World) {c : Cluster} → Reached w c → AllReplayed w c
-reached-replayed w fresh = first-replayed w
-reached-replayed w (then r s) = replayed-kept w (reached-kept w r) (reached-named w r) (reached-formal w r) (reached-logs w r) (change-of w s) (reached-replayed w r)
+reached-replayed w r = always w (Known w) (λ c c′. known-kept w) (record { named = first-named w; formal = first-formal w; logs = first-logs w; replayed = first-replayed w }) r .replayed

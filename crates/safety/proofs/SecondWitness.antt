@@ -1,4 +1,4 @@
--- A second history that happens: two numbers on one key of shard 2, one of them on shard 3 too, where the first counters differ and are full. One takes the fast path, and its drive is gone; a recovery at a floor of 20 is gone too; another, at a floor of 9, is behind, tries again, is told Done and commits. The other number moves on in phase 1. All servers run in one order, a sum that is too large is kept and marks its counter, a read and an add that fits are kept where the counter is full, a put clears the mark, and a Fetch is answered with Results.
+-- A second history that happens: two numbers on one key of shard 2, one of them on shard 3 too, where the first counters differ and are full. One takes the fast path, and its drive is gone; a recovery at a floor of 20 is gone too; another, at a floor of 9, is behind, tries again, is told Done and commits. The other number moves on in phase 1. A server that gets its Commit first runs nothing, and both numbers, one after the other, once the Commit of the first comes. All servers run in one order, a sum that is too large is kept and marks its counter, a read and an add that fits are kept where the counter is full, a put clears the mark, and a Fetch is answered with Results.
 -- Assumes nothing.
 use mathlib.Core.Path.{_≡_, refl}
 use mathlib.Core.Option.{Option, none, some}
@@ -15,7 +15,7 @@ use Rattle.rules.specs.Pieces.{noPiece, read, put, add}
 use Rattle.rules.specs.Maybe.{someWord, noVote}
 use Rattle.rules.specs.Values.{noValue}
 use Rattle.wire.specs.declared.Message.{Message}
-use Rattle.wire.specs.Messages.{prepareOK, results}
+use Rattle.wire.specs.Messages.{prepareOK, commitOK, results}
 use Rattle.counters.specs.declared.Counters.{Counters}
 use Rattle.counters.specs.Effects.{holding, marked}
 use Rattle.drive.specs.declared.Drive.{Drive}
@@ -65,21 +65,28 @@ conflicting =
     starts 3 4 12 ∷ sends 3 ∷ takes 6 19 ∷ takes 8 19 ∷ hears 3 20 ∷ hears 3 21 ∷ movesOn 3
     ∷ sends 3 ∷ takes 6 22 ∷ takes 8 22 ∷ hears 3 23 ∷ hears 3 24 ∷ sends 3 ∷ takes 6 25 ∷ takes 8 25 ∷ []
 
--- two servers of each shard run, and server 6 tells the results of 12
-running : List Event
-running = runs 6 ∷ runs 6 ∷ runs 8 ∷ runs 8 ∷ runs 9 ∷ runs 10 ∷ fetches 6 12 ∷ []
+-- server 7 gets the Commit of 12 first and runs nothing; then that of 9, and runs 9 and 12; then nothing is left to run
+late : List Event
+late = takes 7 25 ∷ takes 7 15 ∷ runs 7 ∷ []
+
+-- server 6 tells the results of 12
+telling : List Event
+telling = fetches 6 12 ∷ []
 
 script : List Event
-script = exchange ++ (gone ++ (recovery ++ (conflicting ++ running)))
+script = exchange ++ (gone ++ (recovery ++ (conflicting ++ (late ++ telling))))
 
 -- ---- what it ends with
 
 pub record End : Type 0 where
   pub at6 : Shown
+  pub at7 : Shown
   pub at8 : Shown
   pub at9 : Shown
   pub at10 : Shown
   pub told : Message
+  pub tooEarly : Message
+  pub runsBoth : Message
   pub unheard : Message
   pub station0 : Option Drive
   pub station2 : Option Drive
@@ -89,10 +96,13 @@ pub record End : Type 0 where
 unfoldable pub endOf : Cluster → End
 endOf c = record {
   at6 = shownAt c 6 12;
+  at7 = shownAt c 7 12;
   at8 = shownAt c 8 12;
   at9 = shownAt c 9 9;
   at10 = shownAt c 10 9;
-  told = sentAs c 28;
+  told = sentAs c 30;
+  tooEarly = sentAs c 28;
+  runsBoth = sentAs c 29;
   unheard = sentAs c 10;
   station0 = c .stations 0;
   station2 = c .stations 2;
@@ -116,14 +126,17 @@ third = record {
   results = record { value = pos 7; kept = 0 } ∷ record { value = pos 30; kept = 1 } ∷ record { value = pos 30; kept = 1 } ∷ [];
 }
 
--- servers of a shard show the same; the Fetch was answered with Results; the Prepare at ballot 21 was answered too, but no drive is where the two were that are gone; five ballots were taken
+-- servers of a shard show the same; the Fetch was answered with Results; at server 7 the Commit of 12 ran nothing and that of 9 ran two; the Prepare at ballot 21 was answered too, but no drive is where the two were that are gone; five ballots were taken
 unfoldable pub end : End
 end = record {
   at6 = second;
+  at7 = second;
   at8 = second;
   at9 = third;
   at10 = third;
   told = results 12 6 (record { list = sums ++ replicate 6 noValue; count = 2 });
+  tooEarly = commitOK 12 7 0;
+  runsBoth = commitOK 9 7 2;
   unheard = prepareOK 9 6 21 (someWord 0) noVote;
   station0 = none;
   station2 = none;
@@ -132,7 +145,7 @@ end = record {
 }
 
 happens : onEnd endOf (play world script (atFirst world)) ≡ some end
-unfolding scripts nine twelve tens world exchange gone recovery conflicting running script endOf second third end
+unfolding scripts nine twelve tens world exchange gone recovery conflicting late telling script endOf second third end
 happens = refl
 
 pub second-witness : (w : World) × (c : Cluster) × Reached w c × (endOf c ≡ end)

@@ -113,7 +113,7 @@ module _ (touched : ℕ) (c c′ : Cluster) (i id w : ℕ) (wl : w < 2 ^ 64) (m 
     fresh = λ w h. inl (same-arrived (ap (λ (v : Record). v .arrival) e) w h);
     accepted = inl (ap (λ (v : Record). v .accepted) e);
   }
-  moves-here (commitsFirst k n) e = record {
+  moves-here (commitsFirst j k n) e = record {
     promise = let z = ap (λ (v : Record). v .promise) e in omega arith;
     arrival = same-arrival (ap (λ (v : Record). v .arrival) e);
     fresh = λ w h. inl (same-arrived (ap (λ (v : Record). v .arrival) e) w h);
@@ -130,7 +130,7 @@ module _ (touched : ℕ) (c c′ : Cluster) (i id w : ℕ) (wl : w < 2 ^ 64) (m 
   committed-here v (preAcceptsAgain q op n) e k z = still-open (ap (λ (r : Record). r .committed) e) op k
   committed-here v (accepts q op) e k z = still-open (ap (λ (r : Record). r .committed) e) op k
   committed-here v (prepares q op) e k z = still-open (ap (λ (r : Record). r .committed) e) op k
-  committed-here v (commitsFirst q n) e k z =
+  committed-here v (commitsFirst j q n) e k z =
       CommitOf.sent m (was-sent rs (λ y. false≢true (sym (ap commits y) ∙ q)) (λ y. false≢true (sym (ap commits y) ∙ q))) q refl (sym (ap (λ (r : Record). r .committed .set) e) ∙ z)
 
   -- ---- what the answer rests on
@@ -182,7 +182,7 @@ module _ (touched : ℕ) (c c′ : Cluster) (i id w : ℕ) (wl : w < 2 ^ 64) (m 
       quiet : (b : ℕ) (h : Said (c′ .sent) (m .t) AcceptOK (SaysAcceptOK i b)) → (h .message ≡ prepareOK (m .t) id (m .ballot) (R .arrival) (R .accepted)) ⊎ List·Memᴰ (h .message) (c .sent) → Said (c .sent) (m .t) AcceptOK (SaysAcceptOK i b)
       quiet b h (inl q) = absurd (omega (arith, h .coded, ap (λ (m : Message). m .code) q))
       quiet b h (inr q) = record { message = h .message; within = q; coded = h .coded; numbered = h .numbered; says = h .says }
-  reply-sound (commitsFirst k n) e z = record {
+  reply-sound (commitsFirst j k n) e z = record {
     accept = λ k n. absurd (omega arith);
     acceptOK = λ k n. absurd (omega arith);
     preAcceptOK = λ k n. absurd (omega arith);
@@ -204,7 +204,7 @@ reply-other touched i w v m (preAcceptsFirst k op h) a a′ u n = of-another tou
 reply-other touched i w v m (preAcceptsAgain k op h) a a′ u n = of-another touched a a′ u _ (λ e. n (sym e))
 reply-other touched i w v m (accepts k op) a a′ u n = of-another touched a a′ u _ (λ e. n (sym e))
 reply-other touched i w v m (prepares k op) a a′ u n = of-another touched a a′ u _ (λ e. n (sym e))
-reply-other touched i w v m (commitsFirst k h) a a′ u n = of-another touched a a′ u _ (λ e. n (sym e))
+reply-other touched i w v m (commitsFirst j k h) a a′ u n = of-another touched a a′ u _ (λ e. n (sym e))
 
 module _ (w : World) (c : Cluster) (i id a : ℕ) (al : a < 2 ^ 64) (m : Message) (o : Changed) (rs : Reaches c m) (own : asks (m .code) ≡ true → id ≡ i) (l : m .t < length (c .servers i .records)) (did : Did id a (recordOf c i (m .t)) m o) where
   abbrev C′ : Cluster

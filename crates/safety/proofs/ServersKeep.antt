@@ -1,4 +1,4 @@
--- The servers' steps keep what is kept: a message taken or refused, a run. Assumes nothing.
+-- The servers' steps keep what is kept: a message taken or refused, with what it runs, and a run. Assumes nothing.
 use mathlib.Core.Path.{_≡_, refl, sym, _∙_, ap, subst}
 use mathlib.Core.Logic.{_⊎_, inl, inr, _≢_}
 use mathlib.Core.Bool.{Bool, true, false, cond}
@@ -20,6 +20,7 @@ use Rattle.server.specs.declared.Record.{Record}
 use Rattle.server.specs.declared.Server.{Server}
 use Rattle.server.specs.declared.Ran.{Ran}
 use Rattle.server.specs.Held.{recordAt}
+use Rattle.server.specs.Run.{ranNone}
 use Rattle.server.specs.Serve.{cameEarlier, arrivalSet, fixes, arrivalFor, serve}
 use Rattle.server.proofs.Passed.{Passed, number-below}
 use Rattle.server.proofs.Did.{Did, tells, isDone, preAcceptsFirst, preAcceptsAgain, accepts, prepares, commitsFirst}
@@ -28,7 +29,7 @@ use Rattle.safety.specs.Cluster.{World, Cluster, put, idOf, answered, ra
 use Rattle.safety.proofs.Slice.{Holds}
 use Rattle.safety.proofs.Summary.{Step}
 use Rattle.safety.proofs.View.{Said, SaysAccept, recordOf, CommitOf, sliceOf, touchedOf, step-of, put-all}
-use Rattle.safety.proofs.Serving.{after, Outcome, refuses, takes, outcome}
+use Rattle.safety.proofs.Serving.{after, runs-leave, after-runs, Outcome, refuses, takes, outcome}
 use Rattle.safety.proofs.ServerStep.{server-step}
 use Rattle.safety.proofs.Kept.{Sizes, Kept, quiet-kept}
 
@@ -96,14 +97,15 @@ reply-code (preAcceptsFirst k op n) e = omega arith
 reply-code (preAcceptsAgain k op n) e = omega arith
 reply-code (accepts k op) e = omega arith
 reply-code (prepares k op) e = omega arith
-reply-code (commitsFirst k n) e = omega arith
+reply-code (commitsFirst j k n) e = omega arith
 
 -- a server's id is its own number
 own-id : (i id : ℕ) → id ≡ idOf i → i < 12 → id ≡ i
 own-id i id e l = omega arith
 
 module _ (w : World) (c : Cluster) (i : ℕ) (m : Message) (may : MayTake i m) (rs : Reaches c m) (k : Kept w c) where
-  takes-kept : (o : Changed) → Passed (c .servers i) m → Did (c .servers i .id) (arrivalFor (c .servers i) m) (recordOf c i (m .t)) m o → Kept w (after c i (m .t) o)
+  -- what it does by itself, and then with what it runs
+  pub takes-kept : (o : Changed) → Passed (c .servers i) m → Did (c .servers i .id) (arrivalFor (c .servers i) m) (recordOf c i (m .t)) m o → Kept w (after c i (m .t) o)
   takes-kept o p did = quiet-kept w c (after c i (m .t) o) refl refl
       (server-step w c i (c .servers i .id) (arrivalFor (c .servers i) m) (arrival-fits (c .servers i) m) m o rs (λ a. own-id i (c .servers i .id) (k .sizes .ids i) (may a)) small did)
       (λ t. record { preAcceptOK = λ h. record { message = h .message; within = List·Memᴰ·tail (h .within); coded = h .coded; numbered = h .numbered; says = h .says } })
@@ -125,5 +127,5 @@ module _ (w : World) (c : Cluster) (i : ℕ) (m : Message) (may : MayTake i m) (
   answered-kept = go (outcome c i m)
     where
       go : {c′ : Cluster} → Outcome c i m c′ → Kept w c′
-      go refuses = leaves-kept w c _ i (c .servers i) (leaves-refl (c .servers i)) refl refl refl refl k
-      go (takes o p did) = takes-kept o p did
+      go refuses = ran-kept w c i (ranNone (c .servers i) 0) (leaves-refl (c .servers i)) k
+      go (takes o r p did rn) = ran-kept w (after c i (m .t) o) i r (runs-leave (after-runs rn)) (takes-kept o p did)

@@ -8,6 +8,7 @@ use Rattle.safety.proofs.EqualCounters.{equal-counters}
 use Rattle.safety.proofs.InForm.{in-form}
 use Rattle.safety.proofs.Never13.{never-13}
 use Rattle.safety.proofs.NeverOther.{never-other}
+use Rattle.safety.proofs.NothingLeft.{nothing-left}
 
 safe : (w : World) (c : Cluster) → Reached w c → Safe w c
 safe w c r = record {
@@ -18,6 +19,7 @@ safe w c r = record {
   inForm = in-form w c r;
   never13 = never-13 c (in-form w c r);
   neverOther = never-other w c r;
+  nothingLeft = nothing-left w c r;
 }
 
 pub safety : (w : World) → Safety w

@@ -2,11 +2,13 @@
 -- Assumes nothing.
 use mathlib.Core.Path.{_≡_, refl, sym, subst}
 use mathlib.Core.Logic.{_⊎_, inl, inr, _≢_}
-use mathlib.Core.Bool.{true}
+use mathlib.Core.Bool.{Bool, true, false}
 use mathlib.Core.List.{List, List·Memᴰ}
 use Prim.Native.Nat.{ℕ, _^_, _≤_, _<_}
 use native.Mathlib.Decide.{ℕ-discrete}
 use borrow.Author.Tests.{eq-eqb, ne-eqb}
+use lib.Dec.{eqb}
+use Rattle.rules.specs.Choice.{_if_else_}
 use Rattle.rules.specs.declared.Set.{Set}
 use Rattle.rules.specs.declared.MaybeWord.{MaybeWord}
 use Rattle.rules.specs.declared.MaybeVote.{MaybeVote}
@@ -163,6 +165,18 @@ put-same f i a = rw (eq-eqb i i refl)
 pub put-other : {A : Type 0} (f : ℕ → A) (i : ℕ) (a : A) (j : ℕ) → j ≢ i → put f i a j ≡ f j
 unfolding put
 put-other f i a j n = rw (ne-eqb j i n)
+
+-- what was put last is there
+pub put-put : {A : Type 0} (f : ℕ → A) (i : ℕ) (a b : A) → put (put f i a) i b ≡ put f i b
+unfolding put
+put-put {A} f i a b = λ k. λ j. each j k
+  where
+    go : (j : ℕ) (t : Bool) → (b if t else (a if t else f j)) ≡ (b if t else f j)
+    go j true = refl
+    go j false = refl
+
+    each : (j : ℕ) → put (put f i a) i b j ≡ put f i b j
+    each j = go j (eqb j i)
 
 -- a law of all, after one was put
 pub put-all : {A : Type 0} (P : ℕ → A → Type 0) (f : ℕ → A) (i : ℕ) (a : A) → P i a → ((j : ℕ) → P j (f j)) → (j : ℕ) → P j (put f i a j)

@@ -1,4 +1,4 @@
--- A history that happens, so that nothing holds emptily: an exchange over two shards that loses messages, a recovery by another coordinator, commits, runs at servers of both shards, and a learner that is told of it, runs and shows the same counters.
+-- A history that happens, so that nothing holds emptily: an exchange over two shards that loses messages, a recovery by another coordinator, Commits that run it at servers of both shards, and a learner that is told of it by a Done, which runs it, and shows the same counters.
 -- Assumes nothing.
 use mathlib.Core.Path.{_≡_, refl}
 use mathlib.Core.Bool.{Bool, true, false}
@@ -9,10 +9,12 @@ use lib.IntN.{pos}
 use lib.ListN.{replicate, set}
 use Rattle.rules.specs.declared.Pieces.{Pieces}
 use Rattle.rules.specs.Pieces.{noPiece, put}
+use Rattle.wire.specs.declared.Message.{Message}
+use Rattle.wire.specs.Messages.{commitOK}
 use Rattle.counters.specs.Effects.{holding, noCounters}
 use Rattle.server.specs.Held.{arrivedAt, committedAt}
 use Rattle.safety.specs.Cluster.{World, Cluster, Taken, atFirst, Reached}
-use Rattle.safety.proofs.Scripts.{Event, takes, inquires, runs, runsOut, sends, hears, movesOn, starts, recovers, vanishes, play, Shown, shownAt, onEnd, scripts, ends-with}
+use Rattle.safety.proofs.Scripts.{Event, takes, inquires, runsOut, sends, hears, movesOn, starts, recovers, vanishes, sentAs, play, Shown, shownAt, onEnd, scripts, ends-with}
 
 -- put 5 on key 3 of shard 0 and on key 0 of shard 1
 both : Pieces
@@ -31,13 +33,13 @@ recovery =
     recovers 1 3 8 0 ∷ sends 1 ∷ takes 0 5 ∷ takes 1 5 ∷ takes 3 5 ∷ takes 4 5 ∷ hears 1 6 ∷ hears 1 7 ∷ hears 1 8 ∷ hears 1 9 ∷ movesOn 1
     ∷ sends 1 ∷ takes 0 10 ∷ takes 1 10 ∷ takes 3 10 ∷ takes 5 10 ∷ hears 1 11 ∷ hears 1 12 ∷ hears 1 13 ∷ hears 1 14 ∷ []
 
--- commit at servers of both shards, and run there
+-- commit at servers of both shards, which run it; server 3 is started again and runs until nothing is left, and there is nothing
 commitment : List Event
-commitment = sends 1 ∷ takes 0 15 ∷ takes 3 15 ∷ takes 5 15 ∷ runs 0 ∷ runsOut 3 ∷ []
+commitment = sends 1 ∷ takes 0 15 ∷ takes 3 15 ∷ takes 5 15 ∷ runsOut 3 ∷ []
 
--- server 2 lost its disk: its further life, learner 14, asks server 0, takes the Done that it answers, and runs
+-- server 2 lost its disk: its further life, learner 14, asks server 0 and takes the Done that it answers
 rebuilding : List Event
-rebuilding = inquires 0 8 ∷ takes 14 19 ∷ runs 14 ∷ []
+rebuilding = inquires 0 8 ∷ takes 14 19 ∷ []
 
 script : List Event
 script = exchange ++ (recovery ++ (commitment ++ rebuilding))
@@ -47,10 +49,13 @@ script = exchange ++ (recovery ++ (commitment ++ rebuilding))
 pub record End : Type 0 where
   pub at0 : Shown
   pub at3 : Shown
+  pub at5 : Shown
   pub at14 : Shown
   pub committed5 : Bool
   pub arrived5 : Bool
   pub arrived14 : Bool
+  pub answer0 : Message
+  pub answer14 : Message
   pub order : List ℕ
   pub taken : List Taken
 
@@ -58,10 +63,13 @@ unfoldable pub endOf : Cluster → End
 endOf c = record {
   at0 = shownAt c 0 8;
   at3 = shownAt c 3 8;
+  at5 = shownAt c 5 8;
   at14 = shownAt c 14 8;
   committed5 = committedAt (c .servers 5) 8;
   arrived5 = arrivedAt (c .servers 5) 8;
   arrived14 = arrivedAt (c .servers 14) 8;
+  answer0 = sentAs c 16;
+  answer14 = sentAs c 20;
   order = c .order;
   taken = c .taken;
 }
@@ -70,15 +78,18 @@ endOf c = record {
 unfoldable pub with5 : ℕ → Shown
 with5 x = record { log = 8 ∷ []; counters = set (replicate 16 (holding (pos 0))) x (holding (pos 5)); results = record { value = pos 5; kept = 0 } ∷ [] }
 
--- 8 ran at servers of both shards, and put 5 into a counter of each; the learner shows what server 0 shows; server 5 holds 8 as committed, and neither it nor the learner ever got its PreAccept; two ballots were taken
+-- 8 ran at servers of both shards, and put 5 into a counter of each; the learner shows what server 0 shows; server 5 holds 8 as committed and ran it, and neither it nor the learner ever got its PreAccept; the Commit at server 0 and the Done at the learner, which has the id 2, each ran one number; two ballots were taken
 unfoldable pub end : End
 end = record {
   at0 = with5 3;
   at3 = with5 0;
+  at5 = with5 0;
   at14 = with5 3;
   committed5 = true;
   arrived5 = false;
   arrived14 = false;
+  answer0 = commitOK 8 0 1;
+  answer14 = commitOK 8 2 1;
   order = 8 ∷ [];
   taken = record { number = 8; ballot = 11 } ∷ record { number = 8; ballot = 0 } ∷ [];
 }

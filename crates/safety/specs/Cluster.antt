@@ -1,7 +1,7 @@
 -- The cluster of demand 3: its servers, stations that hold at most one live drive each, the ballots taken, and all that was sent.
 -- A server from SERVERS on is a learner. A station that lost its disk begins anew as a fresh server of its shard and from then on only listens: it takes Commit, Done, Inquire and Fetch, and runs, but takes no PreAccept, Accept or Prepare, since it does not know what it promised.
 -- Learner i is such a further life of server i mod SERVERS, and there may be any number of them. The base has none: what holds of servers and learners holds then too.
--- Each step is a definition of the server or the drive. A refused step changes nothing and sends nothing, as if its message were lost. Messages may be lost, repeated, reordered and misled.
+-- Each step is a definition of the server or the drive. A Commit, or a Done as one, that is not refused runs what is ready: what it runs enters the order of first runs in its place, as what a run runs does. A refused step changes nothing and sends nothing, as if its message were lost. Messages may be lost, repeated, reordered and misled.
 -- What demand 3 takes for granted stands here: each message that arrives was sent (`Reaches`, and the guard of `hears`); each number names one transaction (`World`, in `starts` and `recovers`);
 -- each ballot of a number is taken once (`Unused`); no server or live drive forgets (there is no step that does; a drive may vanish whole).
 use Prim.Native.Nat.{ℕ, _%_, _<_}
@@ -78,10 +78,10 @@ atFirst w = record { servers = firstServer w; stations = λ j. none; taken = [];
 
 -- ---- what a step makes of it
 
--- the server i took a message: its answer is sent
+-- the server i took a message: its answer is sent, and what it ran, if it was a Commit, enters the order
 unfoldable pub answered : Cluster → ℕ → Served → Cluster
 answered c i r =
-    record { servers = put (c .servers) i (r .server); stations = c .stations; taken = c .taken; sent = (r .reply ∷ c .sent) if eqb (r .refusal) 0 else (c .sent); order = c .order }
+    record { servers = put (c .servers) i (r .server); stations = c .stations; taken = c .taken; sent = (r .reply ∷ c .sent) if eqb (r .refusal) 0 else (c .sent); order = firsts (c .order) (entries (r .server .log)) }
 
 -- the server i ran
 unfoldable pub ran : Cluster → ℕ → Ran → Cluster
@@ -132,7 +132,7 @@ Unused c r = r .refusal ≡ 0 → List·Memᴰ (ballotOf (r .drive)) (c .taken) 
 -- ---- the steps
 
 pub data Next (w : World) (c : Cluster) : Cluster → Type 0 where
-  -- a server or a learner takes a message, runs, or runs until nothing is left
+  -- a server or a learner takes a message, by which it runs what is ready if it is a Commit or Done; or it runs, or runs until nothing is left
   takes : (i : ℕ) (m : Message) → MayTake i m → Reaches c m → Next w c (answered c i (serve (c .servers i) m))
   runs : (i : ℕ) → Next w c (ran c i (run (c .servers i)))
   runsOut : (i : ℕ) → Next w c (ran c i (runAll (c .servers i)))

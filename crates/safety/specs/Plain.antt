@@ -104,6 +104,7 @@ pub record OneList (w : World) (c : Cluster) : Type 0 where
   pub once : (p q : ℕ) → p < q → q < 64 → getD list p 64 ≢ getD list q 64
   pub pairs : (s k t a u b : ℕ) → s < 12 → k < 4 → t < 64 → u < 64 → OneKey w k t a u b → LoggedBefore c s t u →
       (p : ℕ) × (q : ℕ) × (p < q) × (q < 64) × (getD list p 64 ≡ t) × (getD list q 64 ≡ u)
+  pub ran : (s t : ℕ) → s < 12 → LoggedAt c s t → (p : ℕ) × (p < length (c .order)) × (getD (c .order) p 64 ≡ t)
   pub begins : (p : ℕ) → p < length (c .order) → getD list p 64 ≡ getD (c .order) p 64
 
 -- Two servers of a shard that ran the same numbers, of those with a piece there, hold the same value and the same full mark at every key, and for each number that both ran equally many results, of the same values and with the same kept marks.
@@ -140,15 +141,23 @@ pub record NoBadForm (c : Cluster) : Type 0 where
   pub movesOn : (j : ℕ) (d : Drive) → c .stations j ≡ some d → moveOn d .refusal ≢ 13
   pub triesAgain : (j : ℕ) (d : Drive) → c .stations j ≡ some d → again d .refusal ≢ 13
 
--- A server has 64 records and a log of 64 places, of which the count uses at most all; at each place used stands a number below 64 that is committed at the server and marked as run, and no number stands twice.
+-- A server has 64 records, words of 64 digits in the sets that it holds as committed, and a log of 64 places, of which the count uses at most all; at each place used stands a number below 64 that is committed at the server and marked as run, and no number stands twice.
 pub record ServerKept (c : Cluster) (s : ℕ) : Type 0 where
   pub records : length (c .servers s .records) ≡ 64
+  pub words : (t k : ℕ) → t < 64 → k < 4 → HeldAt c s t → wordAt (setAt c s t) k < 2 ^ 64
   pub places : length (c .servers s .log .list) ≡ 64
   pub count : c .servers s .log .count ≤ 64
   pub below : (i : ℕ) → i < c .servers s .log .count → entryAt (c .servers s .log) i < 64
   pub held : (i : ℕ) → i < c .servers s .log .count → HeldAt c s (entryAt (c .servers s .log) i)
   pub ran : (i : ℕ) → i < c .servers s .log .count → recordAt (c .servers s) (entryAt (c .servers s .log) i) .ran ≢ 0
   pub once : (i j : ℕ) → i < j → j < c .servers s .log .count → entryAt (c .servers s .log) i ≢ entryAt (c .servers s .log) j
+
+-- Whatever numbers a server holds as committed, if their sets name none but each other, have all run there. And a run answers 0, refuses nothing and leaves the server as it is, and so do runs until 0.
+pub record NothingWaits (c : Cluster) (s : ℕ) : Type 1 where
+  pub closed : (C : ℕ → Type 0) → ((t : ℕ) → C t → t < 64) → ((t : ℕ) → C t → HeldAt c s t) → ((t u k : ℕ) → C t → u < 64 → k < 4 → digit (wordAt (setAt c s t) k) u ≡ 1 → C u) →
+      (t : ℕ) → C t → LoggedAt c s t
+  pub runs : (run (c .servers s) .refusal ≡ 0) × (run (c .servers s) .many ≡ 0) × (run (c .servers s) .server ≡ c .servers s)
+  pub runsOut : (runAll (c .servers s) .refusal ≡ 0) × (runAll (c .servers s) .many ≡ 0) × (runAll (c .servers s) .server ≡ c .servers s)
 
 -- A live drive is of a number below 64 and a coordinator below 8, in a phase up to 3, with 1 to 8 pieces.
 pub record DriveKept (d : Drive) : Type 0 where
@@ -171,7 +180,7 @@ pub record OrderStays (c c′ : Cluster) : Type 0 where
 
 -- ---- all of them
 
-pub record Plain (w : World) : Type 0 where
+pub record Plain (w : World) : Type 1 where
   pub sameWords : (c : Cluster) → Reached w c → SameWords c
   pub oneHasTheOther : (c : Cluster) → Reached w c → OneHasTheOther w c
   pub neverTurned : (c : Cluster) → Reached w c → NeverTurned w c
@@ -180,5 +189,6 @@ pub record Plain (w : World) : Type 0 where
   pub sentIsTaken : (c : Cluster) → Reached w c → SentIsTaken c
   pub noBadForm : (c : Cluster) → Reached w c → NoBadForm c
   pub serverKept : (c : Cluster) → Reached w c → (s : ℕ) → s < 12 → ServerKept c s
+  pub nothingWaits : (c : Cluster) → Reached w c → (s : ℕ) → s < 12 → NothingWaits c s
   pub driveKept : (c : Cluster) → Reached w c → (j : ℕ) (d : Drive) → c .stations j ≡ some d → DriveKept d
   pub orderStays : (c c′ : Cluster) → Reached w c → Later w c c′ → OrderStays c c′

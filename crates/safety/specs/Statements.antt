@@ -1,5 +1,5 @@
 -- What holds of every cluster that is reached: demand 3. It is said of every server, and of every learner as of a server of its shard.
-use Prim.Native.Nat.{ℕ, _<_}
+use Prim.Native.Nat.{ℕ, _^_, _<_}
 use mathlib.Core.Path.{_≡_}
 use mathlib.Core.Logic.{_⊎_, _≢_}
 use mathlib.Core.Bool.{true}
@@ -8,15 +8,16 @@ use mathlib.Core.List.{List, _++_, List·Memᴰ}
 use lib.ListN.{length}
 use Rattle.masks.specs.Bits.{In}
 use Rattle.rules.specs.declared.Set.{Set}
-use Rattle.rules.specs.Cluster.{NUMBERS}
+use Rattle.rules.specs.Cluster.{NUMBERS, SHARDS}
 use Rattle.rules.specs.Pieces.{touches}
 use Rattle.rules.specs.Conflict.{conflict}
 use Rattle.rules.specs.Sets.{word}
 use Rattle.wire.specs.declared.Message.{Message}
-use Rattle.server.specs.Held.{recordAt, committedAt}
+use Rattle.graph.specs.Before.{Closed}
+use Rattle.server.specs.Held.{recordAt, committedAt, ranAt, committedWord}
 use Rattle.server.specs.Form as S
 use Rattle.server.specs.Serve.{serve}
-use Rattle.server.specs.Run.{run, runAll}
+use Rattle.server.specs.Run.{depsOf, ranNone, run, runAll}
 use Rattle.drive.specs.declared.Drive.{Drive}
 use Rattle.drive.specs.Form as D
 use Rattle.drive.specs.Hear.{hear}
@@ -49,6 +50,7 @@ pub record OneOrder (w : World) (c : Cluster) : Type 0 where
   pub all : (t : ℕ) → t < NUMBERS → List·Memᴰ t (completed (c .order) NUMBERS)
   pub only : (t : ℕ) → List·Memᴰ t (completed (c .order) NUMBERS) → t < NUMBERS
   pub once : (t : ℕ) → Earlier t t (completed (c .order) NUMBERS) → ⊥
+  pub ran : (s t : ℕ) → List·Memᴰ t (logOf c s) → List·Memᴰ t (c .order)
   pub runs : (s t u k : ℕ) → Earlier t u (logOf c s) → conflict k (w .pieces t) (w .pieces u) ≡ true → Earlier t u (completed (c .order) NUMBERS)
 
 -- and what ran stays where it is: the order of first runs grows at its end alone
@@ -68,11 +70,12 @@ pub record SameShown (w : World) (c : Cluster) (k s s′ : ℕ) : Type 0 where
 abbrev pub EqualCounters : World → Cluster → Type 0
 EqualCounters w c = (k s s′ : ℕ) → homeOf s ≡ k → homeOf s′ ≡ k → SameRan w c k s s′ → SameShown w c k s s′
 
--- 5: every server and every live drive is in form; a server has a record for each number, and its log has as many places, as the types of these arrays say
+-- 5: every server and every live drive is in form; a server has a record for each number, its log has as many places, and the words of its committed sets have as many digits, as their types say
 pub record InForm (c : Cluster) : Type 0 where
   pub servers : (s : ℕ) → S.formed (c .servers s) ≡ true
   pub records : (s : ℕ) → length (c .servers s .records) ≡ NUMBERS
   pub places : (s : ℕ) → length (c .servers s .log .list) ≡ NUMBERS
+  pub words : (s t k : ℕ) → committedAt (c .servers s) t ≡ true → k < SHARDS → word (recordAt (c .servers s) t .committed .set) k < 2 ^ NUMBERS
   pub drives : (j : ℕ) (d : Drive) → c .stations j ≡ some d → D.formed d ≡ true
 
 -- so that 13 is never given
@@ -90,6 +93,12 @@ pub record NeverOther (c : Cluster) : Type 0 where
   pub pieces : (s : ℕ) (m : Message) → Reaches c m → serve (c .servers s) m .refusal ≢ 5
   pub sets : (s : ℕ) (m : Message) → Reaches c m → serve (c .servers s) m .refusal ≢ 6
 
+-- 6: nothing is left to run. At no server is there a closed number that has not run; and so a run answers 0 and leaves the server as it is, and so do runs until 0, as a station does at start-up
+pub record NothingLeft (c : Cluster) : Type 0 where
+  pub closed : (s t : ℕ) → Closed (depsOf (c .servers s)) (committedWord (c .servers s)) t → ranAt (c .servers s) t ≡ true
+  pub runs : (s : ℕ) → run (c .servers s) ≡ ranNone (c .servers s) 0
+  pub runsOut : (s : ℕ) → runAll (c .servers s) ≡ ranNone (c .servers s) 0
+
 -- ---- demand 3
 
 pub record Safe (w : World) (c : Cluster) : Type 0 where
@@ -100,6 +109,7 @@ pub record Safe (w : World) (c : Cluster) : Type 0 where
   pub inForm : InForm c
   pub never13 : Never13 c
   pub neverOther : NeverOther c
+  pub nothingLeft : NothingLeft c
 
 pub record Safety (w : World) : Type 0 where
   pub always : (c : Cluster) → Reached w c → Safe w c

@@ -28,4 +28,4 @@ module _ (id w : ℕ) (v : Record) (m : Message) where
 
 pub accepted-stays : (s : Server) (m : Message) → m .code ≡ PreAccept → (t : ℕ) → recordAt (serve s m .server) t .accepted ≡ recordAt s t .accepted
 accepted-stays s m e t =
-    serve-part (λ v. v .accepted) s m t (λ q. preAccept-leaves-accepted (s .id) (arrivalFor s m) (recordAt s (m .t)) m e)
+    serve-part (λ v. v .accepted) (λ r v. refl) s m t (λ q. preAccept-leaves-accepted (s .id) (arrivalFor s m) (recordAt s (m .t)) m e)

@@ -51,7 +51,7 @@ module _ (id w : ℕ) (v : Record) (m : Message) (there-is : there (v .arrival .
 
 pub arrival-stays : (s : Server) (m : Message) (t : ℕ) → arrivedAt s t ≡ true → recordAt (serve s m .server) t .arrival ≡ recordAt s t .arrival
 arrival-stays s m t h =
-    serve-part (λ v. v .arrival) s m t (λ e. change-leaves-arrival (s .id) (arrivalFor s m) (recordAt s (m .t)) m (ap (arrivedAt s) (sym e) ∙ h))
+    serve-part (λ v. v .arrival) (λ r v. refl) s m t (λ e. change-leaves-arrival (s .id) (arrivalFor s m) (recordAt s (m .t)) m (ap (arrivedAt s) (sym e) ∙ h))
 
 pub run-arrival-stays : (s : Server) (t : ℕ) → recordAt (run s .server) t .arrival ≡ recordAt s t .arrival
 run-arrival-stays s t = run-leaves s .held t .arrival

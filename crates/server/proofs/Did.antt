@@ -22,9 +22,9 @@ pub record Plain (r : Message) : Type 0 where
   pub notDone : r .code ≢ 20
   pub bare : shapeOf (r .code) .pieces ≡ false
 
-commitOK-plain : (t s : ℕ) → Plain (commitOK t s)
+commitOK-plain : (t s n : ℕ) → Plain (commitOK t s n)
 unfolding shapeOf
-commitOK-plain t s = record { above = lit< tt; notPrepareOK = λ z. omega arith; notDone = λ z. omega arith; bare = refl }
+commitOK-plain t s n = record { above = lit< tt; notPrepareOK = λ z. omega arith; notDone = λ z. omega arith; bare = refl }
 
 behind-plain : (t s b p : ℕ) → Plain (behind t s b p)
 unfolding shapeOf
@@ -50,7 +50,7 @@ pub data Did (id w : ℕ) (v : Record) (m : Message) : Changed → Type 0 where
   preAcceptsAgain : m .code ≡ PreAccept → Open v m → there (v .arrival .some) ≡ true → Did id w v m (becomes (promised m v) (preAcceptOK (m .t) id (m .ballot) (v .arrival .word)))
   accepts : m .code ≡ Accept → Open v m → Did id w v m (becomes (withAccepted m (promised m v)) (acceptOK (m .t) id (m .ballot)))
   prepares : m .code ≡ Prepare → Open v m → Did id w v m (becomes (promised m v) (prepareOK (m .t) id (m .ballot) (v .arrival) (v .accepted)))
-  commitsFirst : commits (m .code) ≡ true → there (v .committed .some) ≡ false → Did id w v m (becomes (withCommitted m v) (commitOK (m .t) id))
+  commitsFirst : (n : ℕ) → commits (m .code) ≡ true → there (v .committed .some) ≡ false → Did id w v m (becomes (withCommitted m v) (commitOK (m .t) id n))
 
 module _ (id w : ℕ) (v : Record) (m : Message) where
   asked-did : (c : Changed) → (Open v m → Did id w v m c) → Did id w v m (asked id v m c)
@@ -72,13 +72,18 @@ module _ (id w : ℕ) (v : Record) (m : Message) where
       go true e = preAcceptsAgain k o e
       go false e = preAcceptsFirst k o e
 
+  -- with any count
+  pub counts-did : (n : ℕ) → commits (m .code) ≡ true → Did id w v m (becomes (committed id v m .after) (commitOK (m .t) id n))
+  unfolding committed
+  counts-did n k = go (there (v .committed .some)) refl
+    where
+      go : (a : Bool) → there (v .committed .some) ≡ a → Did id w v m (becomes (cond a v (withCommitted m v)) (commitOK (m .t) id n))
+      go true e = tells _ (commitOK-plain (m .t) id n)
+      go false e = commitsFirst n k e
+
   commit-did : commits (m .code) ≡ true → Did id w v m (committed id v m)
   unfolding committed
-  commit-did k = go (there (v .committed .some)) refl
-    where
-      go : (a : Bool) → there (v .committed .some) ≡ a → Did id w v m (becomes (cond a v (withCommitted m v)) (commitOK (m .t) id))
-      go true e = tells _ (commitOK-plain (m .t) id)
-      go false e = commitsFirst k e
+  commit-did k = counts-did 0 k
 
   inquire-did : Did id w v m (inquired id v m)
   unfolding inquired

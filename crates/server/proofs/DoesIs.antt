@@ -12,7 +12,7 @@ use Rattle.masks.proofs.Bools.{cond-true, cond-false, not-true-false, true-and-
 use Rattle.rules.specs.Flags.{there}
 use Rattle.wire.specs.declared.Message.{Message}
 use Rattle.wire.specs.Codes.{commits}
-use Rattle.wire.specs.Messages.{blank, preAcceptOK, acceptOK, prepareOK, commitOK, done, behind, notYet, results}
+use Rattle.wire.specs.Messages.{preAcceptOK, acceptOK, prepareOK, commitOK, done, behind, notYet, results}
 use Rattle.wire.proofs.Columns.{commit-codes}
 use Rattle.wire.proofs.FaultsAre.{There, there-is, Of}
 use Rattle.server.specs.declared.Record.{Record}
@@ -21,7 +21,9 @@ use Rattle.server.specs.declared.Changed.{Changed}
 use Rattle.server.specs.Held.{recordAt, putRecord}
 use Rattle.server.specs.Refusals.{refusal}
 use Rattle.server.specs.Changes.{asked, arrive, preAccepted, accepted, prepared, committed, inquired, fetched, change}
+use Rattle.server.specs.Run.{runAll}
 use Rattle.server.specs.Serve.{arrivalSet, arrivalFor, taken, serve}
+use Rattle.server.proofs.StepIs.{step-alone, step-and-runs}
 
 module _ (id w : ℕ) (v : Record) (m : Message) where
   -- the record afterwards and the answer
@@ -50,7 +52,7 @@ module _ (id w : ℕ) (v : Record) (m : Message) where
   unfolding change
   at-3 c = cond-false (eqb (m .code) 0) _ _ (ne-eqb (m .code) 0 (λ z. omega arith)) ∙ cond-false (eqb (m .code) 1) _ _ (ne-eqb (m .code) 1 (λ z. omega arith)) ∙ cond-true (eqb (m .code) 3) _ _ (eq-eqb (m .code) 3 c)
 
-  at-commit : Of m (2 ∷ 20 ∷ []) → change id w v m ≡ committed id v m
+  pub at-commit : Of m (2 ∷ 20 ∷ []) → change id w v m ≡ committed id v m
   unfolding change
   at-commit c =
       let e : commits (m .code) ≡ true = commit-codes (m .code) ∙ c in
@@ -122,14 +124,14 @@ module _ (id w : ℕ) (v : Record) (m : Message) where
     unfolding prepared
     prepare-tells c = at-3 c ∙ asked-open (prepared id v m) open-here low
 
-  -- ---- Commit, and Done as a Commit: "hold pieces and set as committed, answer CommitOK; a repeat with the same set changes nothing"
+  -- ---- Commit, and Done as a Commit: "hold pieces and set as committed, answer CommitOK; a repeat with the same set changes nothing". What then runs is `step-runs`
 
   pub commit-holds : Of m (2 ∷ 20 ∷ []) → (Committed → ⊥)
-      → Becomes (record { pieces = m .pieces; promise = v .promise; arrival = v .arrival; accepted = v .accepted; committed = record { some = 1; set = m .set }; ran = v .ran; values = v .values }) (commitOK (m .t) id)
+      → Becomes (record { pieces = m .pieces; promise = v .promise; arrival = v .arrival; accepted = v .accepted; committed = record { some = 1; set = m .set }; ran = v .ran; values = v .values }) (commitOK (m .t) id 0)
   unfolding committed
   commit-holds c n = at-commit c ∙ rw (is-none (v .committed .some) n)
 
-  pub commit-again : Of m (2 ∷ 20 ∷ []) → Committed → Becomes v (commitOK (m .t) id)
+  pub commit-again : Of m (2 ∷ 20 ∷ []) → Committed → Becomes v (commitOK (m .t) id 0)
   unfolding committed
   commit-again c h = at-commit c ∙ rw (is-there (v .committed .some) h)
 
@@ -159,20 +161,28 @@ module _ (id w : ℕ) (v : Record) (m : Message) where
     unfolding fetched
     fetch-not-yet n = at-5 ∙ rw (is-none (v .ran) n)
 
--- ---- the step: refused, and nothing changes; or taken, and the record of T becomes that, all else staying
+-- ---- the step that is taken: the record of T becomes that, and all else stays, but for what a Commit runs
 
 module _ (s : Server) (m : Message) where
-  pub step-refused : (refusal s m ≡ 0 → ⊥) → serve s m ≡ record { refusal = refusal s m; reply = blank; server = s }
-  unfolding serve
-  step-refused n = cond-false (eqb (refusal s m) 0) _ _ (ne-eqb (refusal s m) 0 n)
-
   -- what the record of T becomes, with the arrival set of a number that arrives now
   abbrev Become : Changed
   Become = change (s .id) (arrivalFor s m) (recordAt s (m .t)) m
 
-  pub step-taken : refusal s m ≡ 0 → serve s m ≡ record { refusal = 0; reply = Become .reply; server = putRecord s (m .t) (Become .after) }
-  unfolding serve taken
-  step-taken e = cond-true (eqb (refusal s m) 0) _ _ (eq-eqb (refusal s m) 0 e)
+  -- the server with it
+  abbrev After : Server
+  After = putRecord s (m .t) (Become .after)
+
+  pub step-taken : refusal s m ≡ 0 → (Of m (2 ∷ 20 ∷ []) → ⊥) → serve s m ≡ record { refusal = 0; reply = Become .reply; server = After }
+  unfolding taken
+  step-taken e n = step-alone s m e n
+
+  -- "one call that answers CommitOK with the count that ran": T, the server, and the count
+  pub step-runs : refusal s m ≡ 0 → Of m (2 ∷ 20 ∷ []) → serve s m ≡ record { refusal = 0; reply = commitOK (m .t) (s .id) (runAll After .many); server = runAll After .server }
+  unfolding taken committed
+  step-runs e c =
+      step-and-runs s m e c
+      ∙ ap (λ (x : Message). record { refusal = 0; reply = commitOK (x .t) (x .server) (runAll After .many); server = runAll After .server })
+      (ap (λ (x : Changed). x .reply) (at-commit (s .id) (arrivalFor s m) (recordAt s (m .t)) m c))
 
   pub arrives-with : m .code ≡ 0 → (There (recordAt s (m .t) .arrival .some) → ⊥) → arrivalFor s m ≡ arrivalSet s (m .pieces)
   unfolding arrivalFor

@@ -1,3 +1,4 @@
+pub mod StepIs
 pub mod RunGroups
 pub mod RunTurns
 pub mod Unchanged
@@ -19,3 +20,5 @@ pub mod LogGrows
 pub mod RunsOneByOne
 pub mod RunKeepsForm
 pub mod KeepsForm
+pub mod CommitRuns
+pub mod CountSays

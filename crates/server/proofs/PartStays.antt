@@ -1,8 +1,8 @@
--- A step stores one record, that of its number: a part of a record that the message's change leaves there stays in every record. Assumes nothing.
+-- A step stores one record, that of its number, and what a Commit runs stores results: a part of a record that the message's change leaves there, and results leave, stays in every record. Assumes nothing.
 use mathlib.Core.Path.{_≡_, refl, sym, _∙_, ap}
 use mathlib.Core.Bool.{Bool, true, false, cond, false≢true}
 use Prim.Native.Nat.{ℕ}
-use lib.Dec.{eqb, ltb}
+use lib.Dec.{ltb}
 use Rattle.rules.specs.Flags.{there}
 use Rattle.wire.specs.declared.Message.{Message}
 use Rattle.wire.specs.Messages.{done, behind}
@@ -11,8 +11,13 @@ use Rattle.server.specs.declared.Server.{Server}
 use Rattle.server.specs.declared.Changed.{Changed}
 use Rattle.server.specs.Held.{noRecord, recordAt}
 use Rattle.server.specs.Changes.{becomes, asked, change}
-use Rattle.server.specs.Refusals.{refusal}
-use Rattle.server.specs.Serve.{serve, taken, refused, arrivalFor}
+use Rattle.rules.specs.declared.Values.{Values}
+use Rattle.server.specs.Form.{formed}
+use Rattle.server.specs.Run.{withResults, nextRun, ranNone, ranFrom, turns, runAll}
+use Rattle.server.specs.Serve.{serve, taken, arrivalFor}
+use Rattle.server.proofs.StepIs.{by-step}
+use Rattle.server.proofs.RunGroups.{group-record}
+use Rattle.server.proofs.RunTurns.{turns-keep}
 use Rattle.server.proofs.RunLeaves.{set-either}
 
 -- one of two, by a test: what is of both is of it
@@ -36,13 +41,21 @@ module _ {A : Type 0} (part : Record → A) where
       after : Changed → A
       after c = part (c .after)
 
+  -- runs leave what results leave
+  runs-part : ((r : Values) (v : Record) → part (withResults r v) ≡ part v) → (s : Server) (t : ℕ) → part (recordAt (runAll s .server) t) ≡ part (recordAt s t)
+  unfolding runAll
+  runs-part h s t = go (formed s)
+    where
+      go : (b : Bool) → part (recordAt ((cond b (ranFrom s (turns 64 s)) (ranNone s 13)) .server) t) ≡ part (recordAt s t)
+      go true = turns-keep (λ x. part (recordAt x t) ≡ part (recordAt s t)) (λ x p. group-record x (nextRun x) part h t ∙ p) 64 s refl
+      go false = refl
+
   -- of the record of the number t, where t is the message's if it has to be
-  pub serve-part : (s : Server) (m : Message) (t : ℕ) →
+  pub serve-part : ((r : Values) (v : Record) → part (withResults r v) ≡ part v) → (s : Server) (m : Message) (t : ℕ) →
       (t ≡ m .t → part (change (s .id) (arrivalFor s m) (recordAt s (m .t)) m .after) ≡ part (recordAt s (m .t))) →
       part (recordAt (serve s m .server) t) ≡ part (recordAt s t)
-  unfolding serve taken
-  serve-part s m t f = go (eqb (refusal s m) 0)
+  unfolding taken
+  serve-part h s m t f = by-step s m (λ v. part (recordAt (v .server) t) ≡ part (recordAt s t)) (λ n. refl) (λ e k. alone) (λ e k. runs-part h (taken s m .server) t ∙ alone)
     where
-      go : (b : Bool) → part (recordAt ((cond b (taken s m) (refused s (refusal s m))) .server) t) ≡ part (recordAt s t)
-      go true = set-either (λ v. part v ≡ part (recordAt s t)) (s .records) (m .t) t _ noRecord refl (λ e. f e ∙ ap (λ u. part (recordAt s u)) (sym e))
-      go false = refl
+      alone : part (recordAt (taken s m .server) t) ≡ part (recordAt s t)
+      alone = set-either (λ v. part v ≡ part (recordAt s t)) (s .records) (m .t) t _ noRecord refl (λ e. f e ∙ ap (λ u. part (recordAt s u)) (sym e))

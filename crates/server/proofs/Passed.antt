@@ -4,8 +4,7 @@ use mathlib.Core.Logic.{_≢_}
 use mathlib.Core.Bool.{Bool, true, false, not, cond, _&&_}
 use Prim.Native.Nat.{ℕ, _<_}
 use native.Mathlib.Omega.{arith}
-use lib.Dec.{eqb}
-use borrow.Author.Tests.{eqb-true, ltb-false}
+use borrow.Author.Tests.{ltb-false}
 use Rattle.masks.proofs.Bools.{not-no, or-no-l}
 use Rattle.rules.specs.Pieces.{shardsOf}
 use Rattle.wire.specs.declared.Message.{Message}
@@ -14,7 +13,8 @@ use Rattle.server.specs.declared.Server.{Server}
 use Rattle.server.specs.Held.{recordAt, shard}
 use Rattle.server.specs.Form.{formed}
 use Rattle.server.specs.Refusals.{notTaken, untouched, otherPieces, otherSet, refusal}
-use Rattle.server.specs.Serve.{serve, taken, refused}
+use Rattle.server.specs.Serve.{serve, taken}
+use Rattle.server.proofs.StepIs.{by-step}
 
 pub record Passed (s : Server) (m : Message) : Type 0 where
   pub form : formed s ≡ true
@@ -105,12 +105,8 @@ refused6 s m e =
 
 -- the step's refusal is that number
 pub serve-refusal : (s : Server) (m : Message) → serve s m .refusal ≡ refusal s m
-unfolding serve taken
-serve-refusal s m = go (eqb (refusal s m) 0) refl
-  where
-    go : (b : Bool) → eqb (refusal s m) 0 ≡ b → (cond b (taken s m) (refused s (refusal s m))) .refusal ≡ refusal s m
-    go true e = sym (eqb-true (refusal s m) 0 e)
-    go false e = refl
+unfolding taken
+serve-refusal s m = by-step s m (λ v. v .refusal ≡ refusal s m) (λ n. refl) (λ e k. sym e) (λ e k. sym e)
 
 -- the number is one
 pub number-below : (m : Message) → badNumbers m ≡ false → m .t < 64

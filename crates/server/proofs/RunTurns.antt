@@ -92,10 +92,10 @@ abbrev pub AllRun : Server → Type 0
 AllRun s = (t : ℕ) → Closed (depsOf s) (committedWord s) t → In (ranWord s) t
 
 module _ (s : Server) (z : Sized s) where
-  abbrev first : ℕ
+  abbrev pub first : ℕ
   first = firstReady (rowsOf (depsOf s)) (committedWord s) (ranWord s)
 
-  abbrev FirstRuns : Type 0
+  abbrev pub FirstRuns : Type 0
   FirstRuns = Runs (depsOf s) (committedWord s) (ranWord s) first
 
   pub next-word : nextRun s < 2 ^ 64
@@ -112,7 +112,7 @@ module _ (s : Server) (z : Sized s) where
   quiet = next-none (depsOf s) (z .words) (committedWord s) (ranWord s) (committed-lt s)
 
   -- what runs next has a number that has not run
-  runs-new : (nextRun s ≡ 0 → ⊥) → FirstRuns
+  pub runs-new : (nextRun s ≡ 0 → ⊥) → FirstRuns
   runs-new ne = go (next-dec (depsOf s) (z .words) (committedWord s) (ranWord s))
     where
       go : Dec (first < 64) → FirstRuns
@@ -139,7 +139,7 @@ module _ (s : Server) (z : Sized s) where
       r .ready .waits (full-word (ranWord s) h first (r .small)))
 
 -- 64 turns are enough
-turns-quiet : (n : ℕ) (s : Server) → Sized s → 64 ≤ size (ranWord s) + n → nextRun (turns n s) ≡ 0
+pub turns-quiet : (n : ℕ) (s : Server) → Sized s → 64 ≤ size (ranWord s) + n → nextRun (turns n s) ≡ 0
 turns-quiet zero s z h = rw turns-none (full s z (omega arith))
 turns-quiet (suc n) s z h = go (ℕ-discrete (nextRun s) 0) (λ m. turns-quiet n (runGroup s (nextRun s)) (sized-group s (nextRun s) z) (omega (arith, m)))
   where

@@ -1,4 +1,4 @@
--- A fresh server is in form, and a message keeps the form. Assumes nothing.
+-- A message keeps the form, before anything runs. Assumes nothing.
 use mathlib.Core.Path.{_≡_, refl, sym, _∙_, ap, subst}
 use mathlib.Core.Logic.{_⊎_, inl, inr}
 use mathlib.Core.Bool.{Bool, true, false, not, cond, _&&_, _||_}
@@ -26,14 +26,14 @@ use Rattle.server.specs.declared.Record.{Record}
 use Rattle.server.specs.declared.Server.{Server}
 use Rattle.server.specs.declared.Changed.{Changed}
 use Rattle.server.specs.Held.{noRecord, recordAt, putRecord, shard, committedAt, arrivedAt, entryAt}
-use Rattle.server.specs.Form.{logged, formed}
+use Rattle.server.specs.Form.{logged}
 use Rattle.server.specs.Refusals.{untouched, otherPieces, refusal}
 use Rattle.server.specs.Changes.{change}
-use Rattle.server.specs.Serve.{cameEarlier, arrivalSet, fixes, arrivalFor, refused, taken, serve}
+use Rattle.server.specs.Serve.{cameEarlier, arrivalSet, fixes, arrivalFor, taken}
 use Rattle.server.proofs.Passed.{Passed, passed, number-below}
 use Rattle.server.proofs.Did.{Did, tells, isDone, preAcceptsFirst, preAcceptsAgain, accepts, prepares, commitsFirst, Open, change-did}
 use Rattle.server.proofs.RunLeaves.{set-either}
-use Rattle.server.proofs.FormParts.{RecordForm, EntryForm, ResultForm, Formed, formed-parts, parts-formed, logged-committed}
+use Rattle.server.proofs.FormParts.{RecordForm, EntryForm, ResultForm, Formed, formed-parts, logged-committed}
 
 -- ---- what the refusals leave of a message
 
@@ -189,7 +189,7 @@ module _ (s : Server) (m : Message) (p : Passed s m) (f : RecordForm (shard s) (
         accepted = old-accepted h;
         committed = λ z. no-commit op z;
       }
-  did-record l (commitsFirst k n) =
+  did-record l (commitsFirst j k n) =
       let h : hasPieces (m .code) ≡ true = commit-shape hasPieces refl refl k in
       let a = kept-any (m .pieces) (kept h) in
       record {
@@ -212,7 +212,7 @@ did-committed (preAcceptsFirst k op n) e = absurd (true-and-false e (op .uncommi
 did-committed (preAcceptsAgain k op n) e = absurd (true-and-false e (op .uncommitted))
 did-committed (accepts k op) e = absurd (true-and-false e (op .uncommitted))
 did-committed (prepares k op) e = absurd (true-and-false e (op .uncommitted))
-did-committed (commitsFirst k n) e = absurd (true-and-false e n)
+did-committed (commitsFirst j k n) e = absurd (true-and-false e n)
 
 pub did-ran : {id w : ℕ} {v : Record} {m : Message} {o : Changed} → Did id w v m o → o .after .ran ≡ v .ran
 did-ran (tells r q) = refl
@@ -221,7 +221,7 @@ did-ran (preAcceptsFirst k op n) = refl
 did-ran (preAcceptsAgain k op n) = refl
 did-ran (accepts k op) = refl
 did-ran (prepares k op) = refl
-did-ran (commitsFirst k n) = refl
+did-ran (commitsFirst j k n) = refl
 
 -- ---- the server after it
 
@@ -270,11 +270,7 @@ module _ (s : Server) (m : Message) (o : Changed) (p : Passed s m) (did : Did (s
           go true e = subst (ResultForm (shard s) (has (logged (s .log) (s .log .count)) (m .t))) (sym (did-committed did (logged-committed s form (m .t) (sym (old .ran) ∙ e)))) old
           go false e = record { ran = ap there (did-ran did) ∙ old .ran; count = λ z. absurd (true-and-false z (ap there (did-ran did) ∙ e)) }
 
--- a message keeps the form, whatever it is
-pub serve-keeps-form : (s : Server) (m : Message) → length (s .records) ≡ 64 → formed s ≡ true → formed (serve s m .server) ≡ true
-unfolding serve taken
-serve-keeps-form s m size f = go (eqb (refusal s m) 0) refl
-  where
-    go : (b : Bool) → eqb (refusal s m) 0 ≡ b → formed ((cond b (taken s m) (refused s (refusal s m))) .server) ≡ true
-    go true e = parts-formed _ (after-form s m (change (s .id) (arrivalFor s m) (recordAt s (m .t)) m) (passed s m (eqb-true (refusal s m) 0 e)) (change-did (s .id) (arrivalFor s m) (recordAt s (m .t)) m) size)
-    go false e = f
+-- a message that is not refused keeps the form, whatever it is, before anything runs
+pub taken-form : (s : Server) (m : Message) → length (s .records) ≡ 64 → refusal s m ≡ 0 → Formed (taken s m .server)
+unfolding taken
+taken-form s m size e = after-form s m (change (s .id) (arrivalFor s m) (recordAt s (m .t)) m) (passed s m e) (change-did (s .id) (arrivalFor s m) (recordAt s (m .t)) m) size

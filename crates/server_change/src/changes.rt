@@ -110,12 +110,12 @@ fn prepared(id: u32, v: Record, m: Message) -> Changed
     }
 }
 
-// Pieces and set are held as committed; a repeat changes nothing.
+// Pieces and set are held as committed; a repeat changes nothing. Nothing has run yet: whoever runs puts the count into the reply.
 fn committed(id: u32, v: Record, m: Message) -> Changed
     ensures { λ r. ⌜ r ≡ committed id v m ⌝ }
 {
     let repeat = v.committed.some != 0;
-    let reply = messages::replies::commit_ok(m.t, id);
+    let reply = messages::replies::commit_ok(m.t, id, 0);
     if repeat {
         return Changed {
             after: v,

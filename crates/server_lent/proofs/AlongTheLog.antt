@@ -1,12 +1,12 @@
 -- Runs up to a limit are the numbers that they log, run one after the other: so a plan that has them in order comes to the same server. Assumes nothing.
 use Prim.Native.Nat.{ℕ, zero, suc, _+_, _-_, _≤_, _<_}
-use mathlib.Core.Path.{_≡_, refl, sym, ap, ap₂, _∙_, subst}
+use mathlib.Core.Path.{_≡_, refl, sym, ap, _∙_, subst}
 use mathlib.Core.Bool.{Bool, true, false, cond}
 use mathlib.Core.List.{List, [], _∷_, _++_}
 use native.Mathlib.Omega.{arith}
-use native.Mathlib.Nat.{add-zero, add-suc, suc-add}
+use native.Mathlib.Nat.{add-zero}
 use lib.Dec.{eqb}
-use lib.ListN.{length, getD, set, length-set}
+use lib.ListN.{length, getD, length-set}
 use lib.Seq.{getD-set-same, getD-set-other}
 use Rattle.masks.specs.Bits.{has}
 use Rattle.masks.specs.Folds.{iter, over}
@@ -16,7 +16,7 @@ use Rattle.server.specs.declared.Server.{Server}
 use Rattle.rules.specs.Pieces.{used}
 use Rattle.counters.specs.Effects.{execute}
 use Rattle.counters.proofs.PerKey.{counters-length}
-use Rattle.server.specs.Held.{recordAt, putRecord, shard, entryAt, append}
+use Rattle.server.specs.Held.{recordAt, putRecord, shard, entryAt}
 use Rattle.server.specs.Run.{withResults, nextRun, runOne, runGroup, turns}
 use Rattle.server_plan.specs.declared.Plan.{Plan}
 use Rattle.server_lent.specs.Listed.{ranPieces, withCounters, listedAt, ranAt, ranListed, fewOf, ranPlanned}
@@ -123,28 +123,32 @@ along-keys us s zero = refl
 along-keys us s (suc n) = counters-length _ _ (along us s n .counters) ∙ along-keys us s n
 
 module _ (p : Plan) (us : List ℕ) (s : Server) (here : p .shard ≡ shard s) (keys : length (s .counters .list) ≡ 16) where
+  -- the log after them
+  abbrev L : Log
+  L = runs us s .log
+
   abbrev reached : ℕ → Server
   reached n = record { id = s .id; records = along us s n .records; counters = along us s n .counters; log = s .log }
 
-  one : (n : ℕ) → listedAt p n ≡ getD us n 0 → ranAt p n (reached n) ≡ reached (suc n)
+  one : (n : ℕ) → listedAt p L n ≡ getD us n 0 → ranAt p L n (reached n) ≡ reached (suc n)
   unfolding iter runOne
   one n at =
       let own : p .shard ≡ shard (along us s n) = here ∙ ap shardOf (sym (along-id us s n)) in
-      let x = recordAt (reached n) (listedAt p n) in
+      let x = recordAt (reached n) (listedAt p L n) in
       let all : ranPieces (x .pieces) (p .shard) (along us s n .counters) (used (x .pieces .count)) ≡ execute (x .pieces) (p .shard) (along us s n .counters) =
       pieces-run (x .pieces) (p .shard) (along us s n .counters) (along-keys us s n ∙ keys) in
-      (λ j. putRecord (withCounters (reached n) (all j .counters)) (listedAt p n) (withResults (all j .values) x)) ∙ rw (at, own)
+      (λ j. putRecord (withCounters (reached n) (all j .counters)) (listedAt p L n) (withResults (all j .values) x)) ∙ rw (at, own)
 
-  listed-along : (n : ℕ) → ((t : ℕ) → t < n → listedAt p t ≡ getD us t 0) → ranListed p s n ≡ reached n
+  listed-along : (n : ℕ) → ((t : ℕ) → t < n → listedAt p L t ≡ getD us t 0) → ranListed p L s n ≡ reached n
   unfolding ranListed iter
   listed-along zero at = refl
-  listed-along (suc n) at = ap (ranAt p n) (listed-along n (λ t l. at t (omega (arith, l)))) ∙ one n (at n (omega arith))
+  listed-along (suc n) at = ap (ranAt p L n) (listed-along n (λ t l. at t (omega (arith, l)))) ∙ one n (at n (omega arith))
 
   -- the plan has run: the server is the one after these numbers, where the log is theirs
-  pub plan-runs : (many : ℕ) → many ≡ length us → many ≤ 64 → ((t : ℕ) → t < many → listedAt p t ≡ getD us t 0) → ranPlanned p (runs us s .log) many s ≡ runs us s
+  pub plan-runs : (many : ℕ) → many ≡ length us → many ≤ 64 → ((t : ℕ) → t < many → listedAt p L t ≡ getD us t 0) → ranPlanned p (runs us s .log) many s ≡ runs us s
   unfolding ranPlanned
   plan-runs many e l at =
-      let all : ranListed p s (fewOf many) ≡ reached (length us) = ap (ranListed p s) (few-all many l ∙ e) ∙ listed-along (length us) (subst (λ (k : ℕ). (t : ℕ) → t < k → listedAt p t ≡ getD us t 0) e at) in
+      let all : ranListed p L s (fewOf many) ≡ reached (length us) = ap (ranListed p L s) (few-all many l ∙ e) ∙ listed-along (length us) (subst (λ (k : ℕ). (t : ℕ) → t < k → listedAt p L t ≡ getD us t 0) e at) in
       let end : along us s (length us) ≡ runs us s = sym (runs-along us s) in
       (λ j. record { id = all j .id; records = all j .records; counters = all j .counters; log = runs us s .log })
       ∙ (λ j. record { id = sym (along-id us s (length us)) j; records = along us s (length us) .records; counters = along us s (length us) .counters; log = runs us s .log })

@@ -117,33 +117,33 @@ valued v x = record { pieces = x .pieces; promise = x .promise; arrival = x .arr
 abbrev marked : Record → Record
 marked x = record { pieces = x .pieces; promise = x .promise; arrival = x .arrival; accepted = x .accepted; committed = x .committed; ran = 1; values = x .values }
 
-module _ (s : Server) (p : Plan) (many i : ℕ) where
+module _ (s : Server) (p : Plan) (l : Log) (many i : ℕ) where
   abbrev before : Server
-  before = ranListed p s i
+  before = ranListed p l s i
 
   abbrev x : Record
-  x = recordAt before (listedAt p i)
+  x = recordAt before (listedAt p l i)
 
   abbrev o : Executed
   o = ranPieces (x .pieces) (p .shard) (before .counters) (used (x .pieces .count))
 
   abbrev with-values : Server
-  with-values = putRecord (withCounters before (o .counters)) (listedAt p i) (valued (o .values) x)
+  with-values = putRecord (withCounters before (o .counters)) (listedAt p l i) (valued (o .values) x)
 
   pub run-listed-spot-below : spotOf (p .first) i < 64
   run-listed-spot-below = spot-lt (p .first) i
 
-  pub run-listed-place-of-below : placeOf (getD (p .list) (spotOf (p .first) i) 0) < 64
-  run-listed-place-of-below = place-lt (getD (p .list) (spotOf (p .first) i) 0) _ refl
+  pub run-listed-place-of-below : placeOf (getD (l .list) (spotOf (p .first) i) 0) < 64
+  run-listed-place-of-below = place-lt (getD (l .list) (spotOf (p .first) i) 0) _ refl
 
   pub run-listed-run-pieces : used (x .pieces .count) ≤ 8
   run-listed-run-pieces = used-le (x .pieces .count)
 
-  pub run-listed-left-next : putRecord with-values (listedAt p i) (marked (recordAt with-values (listedAt p i))) ≡ ranListed p s (suc i)
+  pub run-listed-left-next : putRecord with-values (listedAt p l i) (marked (recordAt with-values (listedAt p l i))) ≡ ranListed p l s (suc i)
   unfolding ranListed iter
   run-listed-left-next =
       ap (λ (l : List Record). record { id = before .id; records = l; counters = o .counters; log = before .log })
-      (twice (before .records) (listedAt p i) (valued (o .values) x) noRecord marked)
+      (twice (before .records) (listedAt p l i) (valued (o .values) x) noRecord marked)
 
 pub run-planned-run-listed : (s : Server) (p : Plan) (l : Log) (many : ℕ) → fewOf many ≤ 64
 run-planned-run-listed s p l many = few-le many

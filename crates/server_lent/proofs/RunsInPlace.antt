@@ -1,12 +1,12 @@
 -- A planned run of a lent server comes to what the definition says. Assumes nothing.
 use Prim.Native.Nat.{ℕ, zero, suc, _+_, _-_, _^_, _≤_, _<_}
-use mathlib.Core.Path.{_≡_, refl, sym, ap, ap₂, _∙_, subst}
-use mathlib.Core.Bool.{Bool, true, false, cond, not}
+use mathlib.Core.Path.{_≡_, refl, sym, ap, _∙_}
+use mathlib.Core.Bool.{Bool, true, false, cond}
 use mathlib.Core.List.{List, [], _∷_, _++_}
 use mathlib.Core.Logic.{⊎-elim, _⊎_, inl, inr}
 use native.Mathlib.Omega.{arith}
 use borrow.Author.Tests.{lt-ltb, ltb-true, lt-leb}
-use lib.Dec.{eqb, leb, ltb}
+use lib.Dec.{eqb, ltb}
 use native.Mathlib.Numerals.{add-one}
 use lib.ListN.{length, getD, drop, replicate, length-replicate}
 use Rattle.masks.specs.Bits.{has, union, without}
@@ -14,24 +14,23 @@ use Rattle.masks.specs.Folds.{iter, tab, over, maskOf}
 use Rattle.masks.proofs.Bools.{true-or-false}
 use Rattle.masks.proofs.Fills.{fill-none, fill-step, fill-all}
 use Rattle.rules.specs.Choice.{_if_else_}
-use Rattle.graph.specs.Walk.{rowsOf, nextGroup}
+use Rattle.graph.specs.Walk.{nextGroup}
 use Rattle.server.specs.declared.Log.{Log}
 use Rattle.server.specs.declared.Server.{Server}
 use Rattle.server.specs.declared.Ran.{Ran}
-use Rattle.server.specs.Held.{recordAt, shard, committedAt, committedWord, entryAt}
+use Rattle.server.specs.Held.{recordAt, shard, committedAt, committedWord}
 use Rattle.server.specs.Form.{formed}
-use Rattle.server.specs.Run.{depsAt, nextRun, runOne, runGroup, turns}
+use Rattle.server.specs.Run.{depsAt, nextRun, runGroup, turns}
 use Rattle.server.proofs.FormParts.{formed-parts}
 use Rattle.server_form.specs.OnePass.{readLog}
 use Rattle.server_step.specs.OneStore.{placeOf}
 use Rattle.server_run.specs.Gathered.{unrunAt}
-use Rattle.server_run.specs.Limited.{allowed, refusalOf, ranUpTo}
+use Rattle.server_run.specs.Limited.{allowed, ranUpTo}
 use Rattle.server_run.proofs.Gathering.{named-deps}
 use Rattle.server_run.proofs.Turning.{up-to}
 use Rattle.server_read.specs.InPlace.{formBegun, formIn}
 use Rattle.server_read.proofs.StepInPlace.{whole-form}
 use Rattle.server_read.specs.declared.form.Form.{Form}
-use Rattle.server_plan.specs.declared.Plan.{Plan}
 use Rattle.server_plan.specs.declared.Planned.{Planned}
 use Rattle.server_plan.specs.declared.Waiting.{Waiting}
 use Rattle.server_lent.specs.Listed.{spotOf, listedAt, ranPlanned}
@@ -121,7 +120,7 @@ module _ (s : Server) (limit : ℕ) (records : length (s .records) ≡ 64) (keys
   abbrev us : List ℕ
   us = order most s
 
-  abbrev plan : Planned
+  abbrev pub plan : Planned
   plan = plannedBy read (tab (unrunAt s) 64) (committedWord s) (s .log) limit
 
   log-is : plan .log ≡ z .log
@@ -144,14 +143,10 @@ module _ (s : Server) (limit : ℕ) (records : length (s .records) ≡ 64) (keys
   unfolding plannedBy
   many-is = omega (arith, ap (λ (l : Log). l .count) log-is, count-is)
 
-  list-is : plan .plan .list ≡ runs us s .log .list
-  unfolding plannedBy
-  list-is = ap (λ (l : Log). l .list) (log-is ∙ ap (λ (x : Server). x .log) reached)
-
-  listed-is : (s .log .count + length us ≤ 64) → (t : ℕ) → t < length us → listedAt (plan .plan) t ≡ getD us t 0
+  listed-is : (s .log .count + length us ≤ 64) → (t : ℕ) → t < length us → listedAt (plan .plan) (runs us s .log) t ≡ getD us t 0
   unfolding spotOf plannedBy
   listed-is r t l =
-      let at : getD (plan .plan .list) (s .log .count + t) 0 ≡ getD us t 0 = ap (λ (xs : List ℕ). getD xs (s .log .count + t) 0) list-is ∙ entry-after us s t l (omega (arith, r, places)) in
+      let at : getD (runs us s .log .list) (s .log .count + t) 0 ≡ getD us t 0 = entry-after us s t l (omega (arith, r, places)) in
       let near : ltb (s .log .count + t) 64 ≡ true = lt-ltb (s .log .count + t) 64 (omega (arith, l, r)) in
       rw (near, at) (number-place (getD us t 0) (one-of us t (order-numbers most s) l))
 
@@ -165,7 +160,7 @@ module _ (s : Server) (limit : ℕ) (records : length (s .records) ≡ 64) (keys
       shard-is : plan .plan .shard ≡ shard s
       shard-is = unfold plannedBy in refl
 
-  ran-planned : ranPlanned (plan .plan) (plan .log) (plan .many) s ≡ ranUpTo limit s .server
+  pub ran-planned : ranPlanned (plan .plan) (plan .log) (plan .many) s ≡ ranUpTo limit s .server
   ran-planned =
       ap (λ (l : Log). ranPlanned (plan .plan) l (plan .many) s) (log-is ∙ ap (λ (x : Server). x .log) reached)
       ∙ ran-is (room (formed s) refl) ∙ sym reached ∙ ap (λ (r : Ran). r .server) (up-to (formed s) limit s refl z refl)
@@ -174,13 +169,13 @@ module _ (s : Server) (limit : ℕ) (records : length (s .records) ≡ 64) (keys
   unfolding plannedBy
   told-refusal = ap (λ (r : Ran). r .refusal) (up-to (formed s) limit s refl z refl)
 
-  told-many : plan .many ≡ ranUpTo limit s .many
+  pub told-many : plan .many ≡ ranUpTo limit s .many
   unfolding plannedBy
   told-many = ap (λ (l : Log). l .count - s .log .count) log-is ∙ ap (λ (r : Ran). r .many) (up-to (formed s) limit s refl z refl)
 
 -- ---- what the passes over the records give the plan
 
-waits : (s : Server) (w n : ℕ) → n ≤ 64 → waitingIn s w n ≡ record { deps = tab (λ t. unrunOf w (recordAt s t .committed)) n ++ drop n (replicate 64 0); committed = maskOf (committedAt s) n }
+pub waits : (s : Server) (w n : ℕ) → n ≤ 64 → waitingIn s w n ≡ record { deps = tab (λ t. unrunOf w (recordAt s t .committed)) n ++ drop n (replicate 64 0); committed = maskOf (committedAt s) n }
 unfolding waitingIn iter maskOf committedWith
 waits s w zero l = ap (λ (xs : List ℕ). record { deps = xs; committed = 0 }) (fill-none (λ t. unrunOf w (recordAt s t .committed)) (replicate 64 0))
 waits s w (suc n) l =
@@ -191,7 +186,7 @@ waits s w (suc n) l =
     f : ℕ → ℕ
     f t = unrunOf w (recordAt s t .committed)
 
-unrun-is : (s : Server) (w : ℕ) → w ≡ readLog (s .log) .word → tab (λ t. unrunOf w (recordAt s t .committed)) 64 ≡ tab (unrunAt s) 64
+pub unrun-is : (s : Server) (w : ℕ) → w ≡ readLog (s .log) .word → tab (λ t. unrunOf w (recordAt s t .committed)) 64 ≡ tab (unrunAt s) 64
 unfolding unrunOf unrunAt
 unrun-is s w e = λ j. tab (λ t. without (named-deps s t j) (e j)) 64
 

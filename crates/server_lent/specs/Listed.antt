@@ -72,17 +72,17 @@ unfoldable pub spotOf : (first t : ℕ) → ℕ
 spotOf first t = first + t if ltb (first + t) 64 else 0
 
 -- the number at a place of the plan
-abbrev pub listedAt : Plan → ℕ → ℕ
-listedAt p t = placeOf (getD (p .list) (spotOf (p .first) t) 0)
+abbrev pub listedAt : Plan → Log → ℕ → ℕ
+listedAt p l t = placeOf (getD (l .list) (spotOf (p .first) t) 0)
 
-abbrev pub ranAt : Plan → ℕ → Server → Server
-ranAt p t s =
-    let x = recordAt s (listedAt p t) in
+abbrev pub ranAt : Plan → Log → ℕ → Server → Server
+ranAt p l t s =
+    let x = recordAt s (listedAt p l t) in
     let o = ranPieces (x .pieces) (p .shard) (s .counters) (used (x .pieces .count)) in
-    putRecord (withCounters s (o .counters)) (listedAt p t) (withResults (o .values) x)
+    putRecord (withCounters s (o .counters)) (listedAt p l t) (withResults (o .values) x)
 
-unfoldable pub ranListed : Plan → Server → ℕ → Server
-ranListed p s n = iter (ranAt p) s n
+unfoldable pub ranListed : Plan → Log → Server → ℕ → Server
+ranListed p l s n = iter (ranAt p l) s n
 
 unfoldable pub fewOf : ℕ → ℕ
 fewOf many = many if ltb many 64 else 64
@@ -90,5 +90,5 @@ fewOf many = many if ltb many 64 else 64
 -- the plan has run, and the log is stored
 unfoldable pub ranPlanned : Plan → Log → ℕ → Server → Server
 ranPlanned p l many s =
-    let z = ranListed p s (fewOf many) in
+    let z = ranListed p l s (fewOf many) in
     record { id = z .id; records = z .records; counters = z .counters; log = l }

@@ -103,17 +103,17 @@ pub fn run_pieces(s: &mut Server, number: u32, k: u32, many: usize) -> Values
     v
 }
 
-// The numbers at the first `many` places of the plan run, each in its place. Answers how many these are.
-pub fn run_listed(s: &mut Server, p: Plan, many: usize) -> usize
+// The numbers at the first `many` places of the plan run, each in its place; `log` is the log after them, which has them. Answers how many these are.
+pub fn run_listed(s: &mut Server, p: Plan, log: Log, many: usize) -> usize
     requires { ⌜ many ≤ 64 ⌝ }
-    ensures { λ r. ⌜ (r ≡ many) × (now (s .exit) ≡ ranListed p (now (s .entry)) many) ⌝ }
+    ensures { λ r. ⌜ (r ≡ many) × (now (s .exit) ≡ ranListed p log (now (s .entry)) many) ⌝ }
 {
     let k = p.shard;
     let first = p.first;
     let mut t: usize = 0;
     while t < many {
         let at = spot(first, t);
-        let n = p.list[at];
+        let n = log.list[at];
         let u = place_of(n);
         let ps = s.records[u].pieces;
         let count = ps.count;
@@ -138,7 +138,7 @@ pub fn run_planned(s: &mut Server, p: Plan, log: Log, many: usize) -> usize
     ensures { λ r. ⌜ (r ≡ fewOf many) × (now (s .exit) ≡ ranPlanned p log many (now (s .entry))) ⌝ }
 {
     let n = few(many);
-    let done = run_listed(&mut *s, p, n);
+    let done = run_listed(&mut *s, p, log, n);
     s.log = log;
     done
 }

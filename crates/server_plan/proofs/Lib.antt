@@ -1,2 +1,3 @@
 pub mod PlanTurns
+pub mod WaitsAlone
 pub mod PlanIsRuns

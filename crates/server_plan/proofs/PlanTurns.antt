@@ -2,12 +2,16 @@
 use Prim.Native.Nat.{ℕ, zero, suc, _+_, _-_, _<_, _≤_}
 use mathlib.Core.Path.{_≡_, refl, sym, ap, _∙_}
 use mathlib.Core.List.{List}
-use mathlib.Core.Bool.{true, false}
+use mathlib.Core.Bool.{Bool, true, false, not, _&&_}
 use native.Mathlib.Omega.{arith}
 use borrow.Author.Tests.{eq-eqb, ne-eqb, lt-ltb, le-ltb}
-use Rattle.masks.specs.Bits.{has, union}
+use Rattle.masks.specs.Bits.{has, union, within}
+use Rattle.masks.proofs.Bools.{and-no-l, and-no-r}
+use Rattle.masks.proofs.Laws.{within-has}
+use Rattle.masks.proofs.FoldLaws.{least-all-no}
 use Rattle.masks.proofs.Turns.{over-with, over-without}
-use Rattle.graph.specs.Walk.{nextGroup}
+use Rattle.masks.specs.Folds.{anyBelow}
+use Rattle.graph.specs.Walk.{missing, closed, awaited, ready, firstReady, groupAt, nextGroup}
 use Rattle.server.specs.declared.Log.{Log}
 use Rattle.server.specs.Held.{append}
 use Rattle.server_plan.specs.Planning.{noted, loggedOf, plannedLog}
@@ -26,6 +30,18 @@ module _ (l₀ : Log) (g u : ℕ) (l : Log) (so-far : l ≡ loggedOf l₀ g u) w
   logged-same p = so-far ∙ sym (over-without noted l₀ g u p)
 
 module _ (rows : List ℕ) (committed : ℕ) where
+  unready : (ran : ℕ) → within committed ran ≡ true → (t : ℕ) (b : Bool) → has committed t ≡ b → ready rows committed ran t ≡ false
+  unfolding ready closed
+  unready ran h t true e = and-no-l (closed rows committed t && not (has ran t)) (not (anyBelow (awaited rows ran t) 64)) (and-no-r (closed rows committed t) (not (has ran t)) (ap not (within-has committed ran t h e)))
+  unready ran h t false e =
+      and-no-l (closed rows committed t && not (has ran t)) (not (anyBelow (awaited rows ran t) 64))
+      (and-no-l (closed rows committed t) (not (has ran t)) (and-no-l (has committed t) (not (anyBelow (missing rows committed t) 64)) e))
+
+  -- where all that is committed has run, nothing runs next
+  pub covered-none : (ran : ℕ) → within committed ran ≡ true → nextGroup rows committed ran ≡ 0
+  unfolding nextGroup firstReady groupAt
+  covered-none ran h = rw (least-all-no (ready rows committed ran) 64 (λ t l. unready ran h t (has committed t) refl))
+
   pub planned-none : (left ran : ℕ) (l : Log) → left ≡ 0 → plannedLog rows committed left ran l ≡ l
   unfolding plannedLog
   planned-none left ran l e = rw e

@@ -1,10 +1,10 @@
 -- What runs, and in which order, as it is computed before any number runs: the log after the runs.
 use Prim.Native.Nat.{ℕ, zero, suc, _-_}
-use mathlib.Core.Bool.{cond}
+use mathlib.Core.Bool.{Bool, cond, not, _&&_}
 use mathlib.Core.List.{List}
 use lib.Dec.{eqb, ltb}
 use lib.ListN.{replicate, set}
-use Rattle.masks.specs.Bits.{union, insert, without}
+use Rattle.masks.specs.Bits.{none, union, insert, without}
 use Rattle.masks.specs.Folds.{iter, over}
 use Rattle.rules.specs.Choice.{_if_else_}
 use Rattle.rules.specs.Flags.{there}
@@ -57,4 +57,18 @@ plannedLog rows committed (suc n) ran l =
 unfoldable pub plannedBy : Form → List ℕ → (committed : ℕ) → Log → (limit : ℕ) → Planned
 plannedBy f deps committed log limit =
     let l = plannedLog (rowsOf deps) committed (allowed (f .fine) limit) (f .word) log in
-    record { refusal = refusalOf (f .fine); many = l .count - log .count; plan = record { shard = f .shard; first = log .count; list = l .list }; log = l }
+    record { refusal = refusalOf (f .fine); many = l .count - log .count; plan = record { shard = f .shard; first = log .count }; log = l }
+
+-- ---- the plan of a Commit
+
+-- t alone is committed and has not run, and it waits for another: u is the word of what it waits for
+abbrev pub waitsAlone : (w committed t u : ℕ) → Bool
+waitsAlone w committed t u = eqb (without (without committed w) (insert none t)) none && not (eqb (without u (insert none t)) none)
+
+-- nothing runs
+abbrev pub nothingPlanned : Form → Log → Planned
+nothingPlanned f log = record { refusal = refusalOf (f .fine); many = 0; plan = record { shard = f .shard; first = log .count }; log = log }
+
+-- the plan until 0, where the number t has become committed and waits for u: what waits alone is seen without a walk
+unfoldable pub plannedAfter : Form → Waiting → (t u : ℕ) → Log → Planned
+plannedAfter f d t u log = nothingPlanned f log if waitsAlone (f .word) (d .committed) t u else plannedBy f (d .deps) (d .committed) log 64

@@ -1,7 +1,7 @@
 // What runs on a lent server, and in which order: known before any number runs.
 ghost use mathlib.Core.Path.{_≡_};
 ghost use Prim.Native.Nat.{_-_, _<_, _≤_};
-ghost use Rattle.server_plan.specs.Planning.{nothingWaits, unrunOf, committedWith, waitingIn, loggedOf, plannedLog, plannedBy};
+ghost use Rattle.server_plan.specs.Planning.{nothingWaits, unrunOf, committedWith, waitingIn, loggedOf, plannedLog, plannedBy, waitsAlone, nothingPlanned, plannedAfter};
 use rules::MaybeSet;
 use rules::sets::members;
 use server::Log;
@@ -11,11 +11,10 @@ use server_run::gather::named;
 use server_run::running::allowed;
 use server_run::running::refusal_of;
 
-// What is to run: the numbers of the log from the place `first` on, at this shard.
+// What is to run: the numbers of the log after the runs from the place `first` on, at this shard.
 pub struct Plan {
     pub shard: u32,
     pub first: u32,
-    pub list: [u32; 64],
 }
 
 // The plan, and what is told: the refusal or 0, and how many numbers run.
@@ -80,20 +79,21 @@ pub fn waiting_in(s: &Server, word: u64, many: usize) -> Waiting
 pub fn logged(log: Log, g: u64) -> Log
     ensures { λ r. ⌜ r ≡ loggedOf log g 64 ⌝ }
 {
-    let mut l = log;
+    let mut list = log.list;
+    let mut n = log.count;
     for u in 0..64 {
         if masks::has(g, u) {
-            if l.count < 64 {
-                let end = l.count as usize;
-                l.list[end] = u as u32;
-                l.count += 1;
+            if n < 64 {
+                let end = n as usize;
+                list[end] = u as u32;
+                n += 1;
             }
         }
     }
-    l
+    Log { list, count: n }
 }
 
-// The log after at most `limit` runs.
+// The log after at most `limit` runs. Where all that is committed has run, nothing is looked for.
 pub fn planned_log(rows: [u64; 64], committed: u64, ran: u64, log: Log, limit: u32) -> Log
     ensures { λ r. ⌜ r ≡ plannedLog rows committed limit ran log ⌝ }
 {
@@ -101,6 +101,10 @@ pub fn planned_log(rows: [u64; 64], committed: u64, ran: u64, log: Log, limit: u
     let mut r = ran;
     let mut left = limit;
     while 0 < left {
+        let done = masks::within(committed, r);
+        if done {
+            break;
+        }
         let g = graph::next_group(rows, committed, r);
         if g == 0 {
             break;
@@ -120,11 +124,9 @@ pub fn plan_by(f: Form, d: Waiting, log: Log, limit: u32) -> Planned
     let deps = d.deps;
     let rows = graph::closure(deps);
     let l = planned_log(rows, d.committed, f.word, log, allowed(f.fine, limit));
-    let list = l.list;
     let plan = Plan {
         shard: f.shard,
         first: log.count,
-        list,
     };
     Planned {
         refusal: refusal_of(f.fine),
@@ -132,6 +134,43 @@ pub fn plan_by(f: Form, d: Waiting, log: Log, limit: u32) -> Planned
         plan,
         log: l,
     }
+}
+
+// Whether `t` alone is committed and has not run, and waits for another; `u` is what it waits for.
+fn waits_alone(word: u64, committed: u64, t: usize, u: u64) -> bool
+    requires { ⌜ t < 64 ⌝ }
+    ensures { λ r. ⌜ r ≡ waitsAlone word committed t u ⌝ }
+{
+    let only = masks::insert(0, t);
+    let left = masks::without(committed, word);
+    masks::is_empty(masks::without(left, only)) & !masks::is_empty(masks::without(u, only))
+}
+
+fn nothing_planned(f: Form, log: Log) -> Planned
+    ensures { λ r. ⌜ r ≡ nothingPlanned f log ⌝ }
+{
+    let plan = Plan {
+        shard: f.shard,
+        first: log.count,
+    };
+    Planned {
+        refusal: refusal_of(f.fine),
+        many: 0,
+        plan,
+        log: log,
+    }
+}
+
+// The plan until 0 where the number `t` has become committed and waits for `u`. Where it waits alone, as most that wait do, no closure is made.
+pub fn plan_after(f: Form, d: Waiting, t: usize, u: u64, log: Log) -> Planned
+    requires { ⌜ t < 64 ⌝ }
+    ensures { λ r. ⌜ r ≡ plannedAfter f d t u log ⌝ }
+{
+    let waits = waits_alone(f.word, d.committed, t, u);
+    if waits {
+        return nothing_planned(f, log);
+    }
+    plan_by(f, d, log, 64)
 }
 
 fn more(a: u32, b: u32) -> u32

@@ -15,7 +15,7 @@ use Rattle.server.specs.Held.{recordAt}
 use Rattle.server.specs.Serve.{fixes}
 use Rattle.server_form.specs.OnePass.{readLog, numberFormed}
 use Rattle.server_step.specs.declared.Considered.{Considered}
-use Rattle.server_step.specs.OneStore.{refusalBy, looked, changeBy}
+use Rattle.server_step.specs.OneStore.{refusalBy, looked, placeOf, changeBy}
 use Rattle.server_read.specs.declared.form.Form.{Form}
 use Rattle.server_read.specs.declared.stepping.Earlier.{Earlier}
 use Rattle.server_read.specs.declared.stepping.Asked.{Asked}
@@ -50,3 +50,10 @@ abbrev pub concludedOf : Form → ℕ → Record → Asked → Earlier → Messa
 concludedOf f i v q e m =
     let c = changeBy (q .refusal) (f .id) (e .word) v m in
     record { refusal = q .refusal; place = i; after = c .after; reply = c .reply }
+
+-- what a message comes to at a server of this form
+unfoldable pub consideredBy : Server → Form → Message → Considered
+consideredBy s f m =
+    let i = placeOf (m .t) in
+    let q = askedOf f (recordAt s i) m in
+    concludedOf f i (recordAt s i) q (earlierIn s (q .earlier) (q .many)) m

@@ -1,11 +1,9 @@
 // What a message comes to at a lent server: each record is read in its place.
 ghost use mathlib.Core.Path.{_≡_};
 ghost use Prim.Native.Nat.{_<_, _≤_};
-ghost use Rattle.server_step.specs.OneStore.{placeOf, considered};
-ghost use Rattle.server_read.specs.InPlace.{earlierTurn, earlierIn, askedOf, concludedOf};
+ghost use Rattle.server_step.specs.OneStore.{placeOf};
+ghost use Rattle.server_read.specs.InPlace.{earlierTurn, earlierIn, askedOf, concludedOf, consideredBy};
 use crate::form::Form;
-use crate::form::form_in;
-use crate::form::head;
 use messages::codes::PRE_ACCEPT;
 use rules::Keys;
 use server::Record;
@@ -116,12 +114,10 @@ pub fn concluded(f: Form, i: usize, v: Record, q: Asked, e: Earlier, m: Message)
     }
 }
 
-// What the step of the lent server on the message `m` comes to, refused or not.
-pub fn consider(s: &Server, m: Message) -> Considered
-    ensures { λ r. ⌜ r ≡ considered (now (s .entry)) m ⌝ }
+// What the step of the lent server, whose form is known, comes to on the message `m` before anything runs, refused or not.
+pub fn consider(s: &Server, f: Form, m: Message) -> Considered
+    ensures { λ r. ⌜ r ≡ consideredBy (now (s .entry)) f m ⌝ }
 {
-    let f0 = head(s);
-    let f = form_in(s, f0, 64);
     let i = place_for(m);
     let v = s.records[i];
     let q = ask(f, v, m);

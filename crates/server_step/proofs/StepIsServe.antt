@@ -1,5 +1,5 @@
 -- The step as it is computed is the step: a T that is no number is refused whatever record is read, a refusal stores the record that was read,
--- and a message that is not refused has a number. Assumes nothing.
+-- and a message that is not refused has a number. What a Commit then runs follows. Assumes nothing.
 use Prim.Native.Nat.{ℕ, _<_, _≤_}
 use mathlib.Core.Path.{_≡_, refl, sym, ap, _∙_}
 use mathlib.Core.Logic.{⊎-elim}
@@ -7,7 +7,7 @@ use mathlib.Core.Bool.{Bool, true, false, not, cond, _&&_}
 use native.Mathlib.Omega.{arith}
 use lib.Dec.{leb, eqb}
 use lib.Seq.{set-getD}
-use borrow.Author.Tests.{leb-false, eqb-true}
+use borrow.Author.Tests.{leb-false, lt-leb, eqb-true}
 use Rattle.masks.specs.Folds.{maskOf}
 use Rattle.masks.proofs.Bools.{true-or-false, true-and-false}
 use Rattle.masks.proofs.Turns.{mask-none}
@@ -23,8 +23,11 @@ use Rattle.server.specs.declared.Server.{Server}
 use Rattle.server.specs.Held.{recordAt, shard}
 use Rattle.server.specs.Form.{formed}
 use Rattle.server.specs.Refusals.{notTaken, untouched, otherPieces, otherSet, refusal}
-use Rattle.server.specs.Serve.{cameEarlier, arrivalSet, fixes, arrivalFor, refused, taken, serve}
-use Rattle.server_step.specs.OneStore.{firstRefusal, refusalBy, changeBy, looked, placeOf, consideredAt, considered, stored}
+use Rattle.wire.specs.Codes.{commits}
+use Rattle.server.specs.declared.Served.{Served}
+use Rattle.server.specs.Changes.{change}
+use Rattle.server.specs.Serve.{cameEarlier, arrivalSet, fixes, arrivalFor, refused, taken, stepped, serve}
+use Rattle.server_step.specs.OneStore.{firstRefusal, refusalBy, changeBy, looked, placeOf, consideredAt, considered, stored, followed}
 
 -- ---- who came earlier, by keys
 
@@ -88,8 +91,12 @@ module _ (s : Server) (m : Message) where
   unfolding consideredAt changeBy taken arrivalFor
   as-changed n e = rw (e, word-is (fixes (recordAt s (m .t)) m))
 
-  number : badNumber (m .t) ≡ false → stored s (considered s m) ≡ serve s m
-  unfolding considered placeOf serve
+  -- the step before anything runs
+  abbrev pub alone : Served
+  alone = cond (eqb (refusal s m) 0) (taken s m) (refused s (refusal s m))
+
+  number : badNumber (m .t) ≡ false → stored s (considered s m) ≡ alone
+  unfolding considered placeOf
   number e =
       rw (e, ← refusal-is s m)
       (⊎-elim
@@ -97,8 +104,8 @@ module _ (s : Server) (m : Message) where
       (λ h. rw h (as-lent (m .t) (refusal s m) h))
       (true-or-false (eqb (refusal s m) 0)))
 
-  no-number : badNumber (m .t) ≡ true → stored s (considered s m) ≡ serve s m
-  unfolding considered placeOf serve
+  no-number : badNumber (m .t) ≡ true → stored s (considered s m) ≡ alone
+  unfolding considered placeOf
   no-number e =
       let n = refusalBy (formed s) (shard s) (recordAt s 0) m in
       let same : n ≡ refusal s m = any-record (formed s) (shard s) (recordAt s 0) m e (recordAt s (m .t)) ∙ sym (refusal-is s m) in
@@ -106,13 +113,30 @@ module _ (s : Server) (m : Message) where
       let refused-too : eqb (refusal s m) 0 ≡ false = ap (λ (x : ℕ). eqb x 0) (sym same) ∙ bad in
       rw (e, refused-too) (as-lent 0 n bad ∙ ap (refused s) same)
 
-  pub step-is-serve : stored s (considered s m) ≡ serve s m
-  step-is-serve = ⊎-elim no-number number (true-or-false (badNumber (m .t)))
+  runs-then : (a b : Bool) → eqb (refusal s m) 0 ≡ a → commits (m .code) ≡ b → followed m alone ≡ serve s m
+  unfolding serve stepped taken
+  runs-then true true e c = rw (e, c)
+  runs-then true false e c = rw (e, c)
+  runs-then false true e c = rw (e, c, e)
+  runs-then false false e c = rw (e, c)
+
+  pub step-alone : stored s (considered s m) ≡ alone
+  step-alone = ⊎-elim no-number number (true-or-false (badNumber (m .t)))
+
+  pub step-is-serve : followed m (stored s (considered s m)) ≡ serve s m
+  step-is-serve = ap (followed m) step-alone ∙ runs-then _ _ refl refl
 
   -- a message that is not refused is of a number
-  pub not-refused : refusal s m ≡ 0 → m .t < 64
+  not-refused : refusal s m ≡ 0 → m .t < 64
   not-refused e =
       ⊎-elim
       (λ b. absurd (true-and-false (ap (λ (n : ℕ). eqb n 0) e) (ap (λ (n : ℕ). eqb n 0) (refusal-is s m) ∙ bad-refused (formed s) (shard s) (recordAt s (m .t)) m b)))
       (λ b. omega (arith, leb-false 64 (m .t) b))
       (true-or-false (badNumber (m .t)))
+
+  -- and it comes to what it does to the record of that number
+  pub considered-taken : refusal s m ≡ 0 → let o = change (s .id) (arrivalFor s m) (recordAt s (m .t)) m in considered s m ≡ record { refusal = 0; place = m .t; after = o .after; reply = o .reply }
+  unfolding considered consideredAt changeBy placeOf arrivalFor
+  considered-taken e =
+      let l = lt-leb 64 (m .t) (not-refused e) in
+      rw (l, ← refusal-is s m, e, word-is (fixes (recordAt s (m .t)) m))

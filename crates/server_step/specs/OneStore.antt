@@ -1,4 +1,4 @@
--- A server's step as it is computed: the refusal from the form's verdict, the record of T and the message; then one record stored, changed or as it was.
+-- A server's step as it is computed: the refusal from the form's verdict, the record of T and the message; then one record stored, changed or as it was; then what a Commit runs.
 use Prim.Native.Nat.{ℕ}
 use mathlib.Core.Bool.{Bool, not, _&&_}
 use lib.Dec.{eqb}
@@ -8,6 +8,7 @@ use Rattle.rules.specs.Cluster.{NUMBERS, badNumber}
 use Rattle.rules.specs.Pieces.{shardsOf}
 use Rattle.wire.specs.declared.Message.{Message}
 use Rattle.wire.specs.Faults.{badNumbers, badPieces, badSets}
+use Rattle.wire.specs.Codes.{commits}
 use Rattle.wire.specs.Messages.{blank}
 use Rattle.server.specs.declared.Record.{Record}
 use Rattle.server.specs.declared.Server.{Server}
@@ -18,7 +19,7 @@ use Rattle.server.specs.Held.{recordAt, putRecord, shard}
 use Rattle.server.specs.Form.{formed}
 use Rattle.server.specs.Refusals.{notTaken, untouched, otherPieces, otherSet}
 use Rattle.server.specs.Changes.{becomes, change}
-use Rattle.server.specs.Serve.{cameEarlier, fixes}
+use Rattle.server.specs.Serve.{cameEarlier, fixes, thenRuns}
 
 -- the first of the eight tests, in their order, that fires
 abbrev pub firstRefusal : (b13 b12 b1 b2 b3 b4 b5 b6 : Bool) → ℕ
@@ -71,3 +72,10 @@ considered s m =
 -- the one record is stored
 abbrev pub stored : Server → Considered → Served
 stored s c = record { refusal = c .refusal; reply = c .reply; server = putRecord s (c .place) (c .after) }
+
+-- a message with the code k and the refusal n runs what is ready: a Commit, or a Done as one, that is not refused
+abbrev pub runsAfter : (n k : ℕ) → Bool
+runsAfter n k = commits k && eqb n 0
+
+abbrev pub followed : Message → Served → Served
+followed m v = thenRuns v if runsAfter (v .refusal) (m .code) else v

@@ -1,7 +1,7 @@
 // The refusals of a message at a server, and their order.
 ghost use mathlib.Core.Path.{_≡_};
 ghost use Rattle.server.specs.Refusals.{notTaken, untouched, otherPieces, otherSet};
-ghost use Rattle.server_step.specs.OneStore.{firstRefusal, refusalBy};
+ghost use Rattle.server_step.specs.OneStore.{firstRefusal, refusalBy, runsAfter};
 use messages::codes::ACCEPT;
 use messages::codes::COMMIT;
 use messages::codes::DONE;
@@ -98,4 +98,11 @@ pub fn refusal_by(form: bool, k: u32, v: Record, m: Message) -> u32
     let b5 = other_pieces(v, m);
     let b6 = other_set(v, m);
     first_refusal(!form, b12, b1, b2, b3, b4, b5, b6)
+}
+
+// A message with this code and this refusal runs what is ready: a Commit, or a Done as one, that is not refused.
+pub fn runs_after(refusal: u32, code: u32) -> bool
+    ensures { λ r. ⌜ r ≡ runsAfter refusal code ⌝ }
+{
+    ((code == COMMIT) | (code == DONE)) & (refusal == 0)
 }

@@ -1,21 +1,20 @@
 -- What a walk of an exported function comes to is what its contract says. Each law is named for the function and for what it shows, and speaks of what the function's calls answer. Assumes nothing.
 use Prim.Native.Nat.{ℕ, _<_}
-use mathlib.Core.Path.{_≡_, refl, sym, ap, _∙_}
+use mathlib.Core.Path.{_≡_, refl, ap}
 use mathlib.Core.List.{List}
 use mathlib.Core.Bool.{Bool, true, false, cond}
 use lib.Dec.{ltb}
 use borrow.Author.Tests.{ltb-true, lt-leb}
-use denote.Laws.{Is}
-use denote.Struct.Laws as LL
 use Rattle.wire.specs.Bytes.{decode}
-use Rattle.server.specs.declared.Record.{Record}
 use Rattle.server.specs.declared.Ran.{Ran}
 use Rattle.server.specs.declared.Server.{Server}
 use Rattle.server.specs.Held.{recordAt, putRecord}
 use Rattle.server.specs.Run.{run, runAll}
-use Rattle.server.proofs.Server as RServer
-use Rattle.server.proofs.Server.Laws as LServer
-use Rattle.server_step.specs.OneStore.{placeOf}
+use Rattle.server_step.specs.declared.Considered.{Considered}
+use Rattle.server_step.specs.OneStore.{placeOf, runsAfter}
+use Rattle.server_read.specs.declared.form.Form.{Form}
+use Rattle.server_read.specs.InPlace.{formBegun, formIn}
+use Rattle.server_plan.specs.declared.Planned.{Planned}
 use Rattle.server_step.proofs.StepIsServe.{place-lt}
 use Rattle.server_run.specs.Limited.{ranUpTo}
 use Rattle.server_run.proofs.Turning.{run-once, run-until}
@@ -25,37 +24,89 @@ use Rattle.rules.specs.Flags.{there}
 use Rattle.drive.specs.declared.Drive.{Drive}
 use Rattle.drive_step.specs.declared.Weighed.{Weighed}
 use Rattle.drive_step.specs.Weighing.{turned, kept}
-use Rattle.door.specs.declared.Counted.{Counted}
-use Rattle.door.specs.declared.Reading.{Reading}
+use Rattle.door.specs.declared.Answer.{Answer}
 use Rattle.door.specs.declared.Taken.{Taken}
-use Rattle.door.specs.Exchange.{take, heardOf, answerOf, writtenOf, takeReply, weighReply}
+use Rattle.door.specs.Exchange.{Exchange, take, heardOf, placeIn, counting, answerOf, writtenOf, takeReply, weighReply}
 use Rattle.door.specs.Told.{counted}
 use Rattle.door.specs.Readings.{resultIn, result, resultAt, noReading}
-use Rattle.door.proofs.Stored.{take-told, take-written, take-below, take-refused, take-left, weigh-reply-told, weigh-reply-below, weigh-reply-refused, weigh-reply-turned, weigh-reply-kept}
-
-abbrev Sound : Server → Type 0
-Sound s = Is RServer.the-row s (LL.vals RServer.the-type LServer.the-laws s)
+use Rattle.station.specs.Commits.{planFor, committed}
+use Rattle.station.proofs.CommitTaken.{Sound, TypedDecoded, commit-taken}
+use Rattle.door.proofs.Stored.{place-in-below, take-told, take-written, take-below, take-refused, take-left, weigh-reply-told, weigh-reply-below, weigh-reply-refused, weigh-reply-turned, weigh-reply-kept}
 
 -- ---- `drobulets_server_take`
 
 module _ (s : Server) (input z : List ℕ) where
-  abbrev answered : Taken
-  answered = answerOf (heardOf s (decode input)) z
+  abbrev form : Form
+  form = formIn s (formBegun (s .id) (s .log)) 64
 
-  pub server-take-told : answered .answer ≡ take s input z .answer
+  abbrev heard : Considered
+  heard = heardOf s form (decode input)
+
+  abbrev answered : Taken
+  answered = answerOf heard z
+
+  abbrev runsThen : Bool
+  runsThen = runsAfter (heard .refusal) (decode input .message .code)
+
+  -- where nothing runs
+  pub server-take-told : runsThen ≡ false → answered .answer ≡ take s input z .answer
   server-take-told = take-told s input z
 
   pub server-take-taken-place-below : answered .place < 64
   server-take-taken-place-below = take-below s input z
 
-  pub server-take-left-taken-refused : there (answered .answer .refusal) ≡ true → s ≡ take s input z .server
+  pub server-take-left-taken-refused : runsThen ≡ false → there (answered .answer .refusal) ≡ true → s ≡ take s input z .server
   server-take-left-taken-refused = take-refused s input z
 
-  pub server-take-left : there (answered .answer .refusal) ≡ false → putRecord s (answered .place) (answered .after) ≡ take s input z .server
+  pub server-take-left : runsThen ≡ false → there (answered .answer .refusal) ≡ false → putRecord s (answered .place) (answered .after) ≡ take s input z .server
   server-take-left = take-left s input z
 
-  pub server-take-written : writtenOf (heardOf s (decode input)) z ≡ take s input z .output
+  pub server-take-written : runsThen ≡ false → writtenOf heard z ≡ take s input z .output
   server-take-written = take-written s input z
+
+  -- a Commit
+  pub server-take-told-runs : Sound s → TypedDecoded (decode input) → runsThen ≡ true → committed s form heard z .answer ≡ take s input z .answer
+  server-take-told-runs was is goes = ap (λ (x : Exchange). x .answer) (commit-taken s input z was is goes)
+
+  pub server-take-left-runs : Sound s → TypedDecoded (decode input) → runsThen ≡ true → committed s form heard z .server ≡ take s input z .server
+  server-take-left-runs was is goes = ap (λ (x : Exchange). x .server) (commit-taken s input z was is goes)
+
+  pub server-take-written-runs : Sound s → TypedDecoded (decode input) → runsThen ≡ true → committed s form heard z .output ≡ take s input z .output
+  server-take-written-runs was is goes = ap (λ (x : Exchange). x .output) (commit-taken s input z was is goes)
+
+-- ---- `commit`
+
+module _ (s : Server) (f : Form) (h : Considered) (z : List ℕ) where
+  abbrev plan : Planned
+  plan = planFor s f h
+
+  abbrev answer : Answer
+  answer = answerOf (counting h (plan .many)) z .answer
+
+  pub commit-place-in-below : placeIn h < 64
+  commit-place-in-below = place-in-below h
+
+  pub commit-committed-with : placeIn h < 64
+  commit-committed-with = place-in-below h
+
+  pub commit-plan-after : placeIn h < 64
+  commit-plan-after = place-in-below h
+
+  pub commit-told : answer ≡ committed s f h z .answer
+  unfolding committed
+  commit-told = refl
+
+  pub commit-written : writtenOf (counting h (plan .many)) z ≡ committed s f h z .output
+  unfolding committed
+  commit-written = refl
+
+  pub commit-left-answer-refused : there (answer .refusal) ≡ true → s ≡ committed s f h z .server
+  unfolding committed
+  commit-left-answer-refused e = rw e
+
+  pub commit-left : there (answer .refusal) ≡ false → ranPlanned (plan .plan) (plan .log) (plan .many) (putRecord s (placeIn h) (h .after)) ≡ committed s f h z .server
+  unfolding committed
+  commit-left e = rw e
 
 -- ---- the runs
 

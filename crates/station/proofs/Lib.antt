@@ -1,1 +1,2 @@
+pub mod CommitTaken
 pub mod Ends

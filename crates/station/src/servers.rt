@@ -6,12 +6,15 @@ ghost use Rattle.server.specs.Run.{run, runAll};
 ghost use Rattle.server_run.specs.Limited.{ranUpTo};
 ghost use Rattle.door.specs.Told.{counted};
 ghost use Rattle.door.specs.Readings.{counter, logEntry, result};
+ghost use Rattle.station.specs.Commits.{committed};
 use door::Answer;
 use door::Counted;
 use door::LogEntry;
 use door::Reading;
 use server::Server;
 use server::Wants;
+use server_read::form::Form;
+use server_step::Considered;
 
 // A fresh server `id` in the lent place, whatever stood there. Answers the refusal, or 0.
 #[no_mangle]
@@ -21,7 +24,39 @@ pub extern "C" fn drobulets_server_fresh(s: &mut Server, id: u32) -> u32
     server_lent::first::fresh(s, id)
 }
 
+// A Commit that nothing refused, at a server of this form, before anything is stored: `h` is what it comes to. On a refusal of the output nothing is stored and nothing runs.
+pub fn commit(s: &mut Server, f: Form, h: Considered, output: &mut [u8]) -> Answer
+    ensures { λ r. ⌜ (r ≡ committed (now (s .entry)) f h (now (output .entry)) .answer)
+        × (now (s .exit) ≡ committed (now (s .entry)) f h (now (output .entry)) .server)
+        × (now (output .exit) ≡ committed (now (s .entry)) f h (now (output .entry)) .output) ⌝ }
+{
+    let w = server_read::form::form_word(f);
+    let mut d = server_plan::waiting_in(&*s, w, 64);
+    let i = door::exchange::place_in(h);
+    let c = door::exchange::committed_of(h);
+    let u = server_plan::unrun_of(c, w);
+    d.deps[i] = u;
+    let before = d.committed;
+    let after = server_plan::committed_with(before, i, c);
+    d.committed = after;
+    let log = s.log;
+    let p = server_plan::plan_after(f, d, i, u, log);
+    let answer = door::exchange::counted(h, p, output);
+    let refused = door::told::answer_refused(answer);
+    if refused {
+        return answer;
+    }
+    let v = door::exchange::record_of(h);
+    s.records[i] = v;
+    let plan = server_plan::planned_plan(p);
+    let end = server_plan::planned_end(p);
+    let many = server_plan::planned_many(p);
+    let done = server_lent::running::run_planned(&mut *s, plan, end, many);
+    answer
+}
+
 // A message, and its reply at the front of the output. Bytes that do not decode are refused first (10, 12, 11), then the step refuses in its own order, then encoding (12, 14).
+// A Commit, or a Done as one, then runs what is ready; every other message changes the one record of its T. The form is judged once.
 #[no_mangle]
 pub extern "C" fn drobulets_server_take(s: &mut Server, input: &[u8], output: &mut [u8]) -> Answer
     ensures { λ r. ⌜ (r ≡ take (now (s .entry)) (now (input .entry)) (now (output .entry)) .answer)
@@ -29,7 +64,14 @@ pub extern "C" fn drobulets_server_take(s: &mut Server, input: &[u8], output: &m
         × (now (output .exit) ≡ take (now (s .entry)) (now (input .entry)) (now (output .entry)) .output) ⌝ }
 {
     let d = codec::decode(input);
-    let h = door::exchange::heard(&*s, d);
+    let f0 = server_read::form::head(&*s);
+    let f = server_read::form::form_in(&*s, f0, 64);
+    let h = door::exchange::heard(&*s, f, d);
+    let runs = door::exchange::runs(d, h);
+    if runs {
+        let answer = commit(&mut *s, f, h, output);
+        return answer;
+    }
     let o = door::exchange::answered(h, output);
     let answer = door::told::taken_answer(o);
     let refused = door::told::taken_refused(o);

@@ -114,6 +114,9 @@ ballotCodes = 0 ∷ 1 ∷ 3 ∷ 16 ∷ 17 ∷ 19 ∷ 21 ∷ []
 abbrev pub promiseCodes : List ℕ
 promiseCodes = 21 ∷ []
 
+abbrev pub ranCodes : List ℕ
+ranCodes = 18 ∷ []
+
 abbrev pub pieceCodes : List ℕ
 pieceCodes = 0 ∷ 1 ∷ 2 ∷ 3 ∷ 20 ∷ []
 
@@ -145,6 +148,10 @@ module _ (k : ℕ) where
   pub promise-codes : shapeOf k .promise ≡ oneOf k promiseCodes
   unfolding shapeOf
   promise-codes = column promiseCodes refl (λ h. h .promise) refl refl k
+
+  pub ran-codes : shapeOf k .ran ≡ oneOf k ranCodes
+  unfolding shapeOf
+  ran-codes = column ranCodes refl (λ h. h .ran) refl refl k
 
   pub piece-codes : shapeOf k .pieces ≡ oneOf k pieceCodes
   unfolding shapeOf

@@ -36,8 +36,8 @@ sizeBy k m =
     else 44 + 16 * m .pieces .count if oneOf k (2 ∷ 20 ∷ [])
     else 8 if oneOf k (4 ∷ 5 ∷ [])
     else 24 if eqb k 16
-    else 16 if eqb k 17
-    else 12 if oneOf k (18 ∷ 22 ∷ [])
+    else 16 if oneOf k (17 ∷ 18 ∷ [])
+    else 12 if eqb k 22
     else 16 + (12 if there (m .arrival .some) else 4) + (40 if there (m .accepted .some) else 4) if eqb k 19
     else 20 if eqb k 21
     else 16 + 8 * m .values .count

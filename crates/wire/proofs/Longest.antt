@@ -28,7 +28,7 @@ use Rattle.wire.proofs.Lengths.{set-length, pieces-length, values-lengt
 
 -- what a shape's fields take at most, the code and T among them
 abbrev pub most : Shape → ℕ
-most h = 8 + cost (h .server) 4 + cost (h .ballot) 4 + cost (h .promise) 4 + cost (h .pieces) 132 + cost (h .set) 32 + cost (h .word) 8 + cost (h .prepared) 52 + cost (h .values) 68
+most h = 8 + cost (h .server) 4 + cost (h .ballot) 4 + cost (h .promise) 4 + cost (h .ran) 4 + cost (h .pieces) 132 + cost (h .set) 32 + cost (h .word) 8 + cost (h .prepared) 52 + cost (h .values) 68
 
 record Small (h : Shape) : Type 0 where
   small : most h ≤ 176
@@ -38,26 +38,26 @@ either true x y p q = p
 either false x y p q = q
 
 -- each row of the table
-row : (a b c d e f g h : Bool) → most (has a b c d e f g h) ≤ 176 → Small (has a b c d e f g h)
-row a b c d e f g h k = record { small = k }
+row : (a b c n d e f g h : Bool) → most (has a b c n d e f g h) ≤ 176 → Small (has a b c n d e f g h)
+row a b c n d e f g h k = record { small = k }
 
 all-small : (k : ℕ) → Small (shapeOf k)
 unfolding shapeOf
 all-small k =
-    either (eqb k 0) _ _ (row false true false true false false false false (omega arith)) (
-    either (eqb k 1) _ _ (row false true false true true false false false (omega arith)) (
-    either (eqb k 2) _ _ (row false false false true true false false false (omega arith)) (
-    either (eqb k 3) _ _ (row false true false true false false false false (omega arith)) (
-    either (eqb k 4) _ _ (row false false false false false false false false (omega arith)) (
-    either (eqb k 5) _ _ (row false false false false false false false false (omega arith)) (
-    either (eqb k 16) _ _ (row true true false false false true false false (omega arith)) (
-    either (eqb k 17) _ _ (row true true false false false false false false (omega arith)) (
-    either (eqb k 18) _ _ (row true false false false false false false false (omega arith)) (
-    either (eqb k 19) _ _ (row true true false false false false true false (omega arith)) (
-    either (eqb k 20) _ _ (row false false false true true false false false (omega arith)) (
-    either (eqb k 21) _ _ (row true true true false false false false false (omega arith)) (
-    either (eqb k 22) _ _ (row true false false false false false false false (omega arith)) (
-    either (eqb k 23) _ _ (row true false false false false false false true (omega arith)) (
+    either (eqb k 0) _ _ (row false true false false true false false false false (omega arith)) (
+    either (eqb k 1) _ _ (row false true false false true true false false false (omega arith)) (
+    either (eqb k 2) _ _ (row false false false false true true false false false (omega arith)) (
+    either (eqb k 3) _ _ (row false true false false true false false false false (omega arith)) (
+    either (eqb k 4) _ _ (row false false false false false false false false false (omega arith)) (
+    either (eqb k 5) _ _ (row false false false false false false false false false (omega arith)) (
+    either (eqb k 16) _ _ (row true true false false false false true false false (omega arith)) (
+    either (eqb k 17) _ _ (row true true false false false false false false false (omega arith)) (
+    either (eqb k 18) _ _ (row true false false true false false false false false (omega arith)) (
+    either (eqb k 19) _ _ (row true true false false false false false true false (omega arith)) (
+    either (eqb k 20) _ _ (row false false false false true true false false false (omega arith)) (
+    either (eqb k 21) _ _ (row true true true false false false false false false (omega arith)) (
+    either (eqb k 22) _ _ (row true false false false false false false false false (omega arith)) (
+    either (eqb k 23) _ _ (row true false false false false false false false true (omega arith)) (
     record { small = omega arith }))))))))))))))
 
 pub most-small : (k : ℕ) → most (shapeOf k) ≤ 176
@@ -65,7 +65,8 @@ most-small k = all-small k .small
 
 -- the length, field by field
 pub body-length : (h : Shape) (b : Body) → length (body h .put b)
-    ≡ (((((((4 + length (when 0 u32 (h .server) .put (b .0 .0 .0 .0 .0 .0 .0 .1))) + length (when 0 u32 (h .ballot) .put (b .0 .0 .0 .0 .0 .0 .1))) + length (when 0 u32 (h .promise) .put (b .0 .0 .0 .0 .0 .1)))
+    ≡ ((((((((4 + length (when 0 u32 (h .server) .put (b .0 .0 .0 .0 .0 .0 .0 .0 .1))) + length (when 0 u32 (h .ballot) .put (b .0 .0 .0 .0 .0 .0 .0 .1))) + length (when 0 u32 (h .promise) .put (b .0 .0 .0 .0 .0 .0 .1)))
+    + length (when 0 u32 (h .ran) .put (b .0 .0 .0 .0 .0 .1)))
     + length (when noPieces pieces (h .pieces) .put (b .0 .0 .0 .0 .1))) + length (when noSet set4 (h .set) .put (b .0 .0 .0 .1))) + length (when 0 u64 (h .word) .put (b .0 .0 .1)))
     + length (when (noWord, noVote) prepared (h .prepared) .put (b .0 .1))) + length (when noValues values (h .values) .put (b .1))
 unfolding body
@@ -121,11 +122,12 @@ longest m z w =
     let a₁ = when-cost 0 u32 (h .server) (m .server) 4 (λ _. omega (arith, be-length 4 (m .server))) in
     let a₂ = when-cost 0 u32 (h .ballot) (m .ballot) 4 (λ _. omega (arith, be-length 4 (m .ballot))) in
     let a₃ = when-cost 0 u32 (h .promise) (m .promise) 4 (λ _. omega (arith, be-length 4 (m .promise))) in
-    let a₄ = when-cost noPieces pieces (h .pieces) (m .pieces) 132 (λ e. omega (arith, w .pieces e, pieces-length (m .pieces) (omega (arith, w .pieces e, z .pieces)))) in
-    let a₅ = when-cost noSet set4 (h .set) (m .set) 32 (λ _. omega (arith, set-length (m .set))) in
-    let a₆ = when-cost 0 u64 (h .word) (m .word) 8 (λ _. omega (arith, be-length 8 (m .word))) in
-    let a₇ = when-cost (noWord, noVote) prepared (h .prepared) (m .arrival, m .accepted) 52 (λ _. prepared-most _ _) in
-    let a₈ = when-cost noValues values (h .values) (m .values) 68 (λ e. omega (arith, w .values e, values-length (m .values) (omega (arith, w .values e, z .values)))) in
+    let a₄ = when-cost 0 u32 (h .ran) (m .ran) 4 (λ _. omega (arith, be-length 4 (m .ran))) in
+    let a₅ = when-cost noPieces pieces (h .pieces) (m .pieces) 132 (λ e. omega (arith, w .pieces e, pieces-length (m .pieces) (omega (arith, w .pieces e, z .pieces)))) in
+    let a₆ = when-cost noSet set4 (h .set) (m .set) 32 (λ _. omega (arith, set-length (m .set))) in
+    let a₇ = when-cost 0 u64 (h .word) (m .word) 8 (λ _. omega (arith, be-length 8 (m .word))) in
+    let a₈ = when-cost (noWord, noVote) prepared (h .prepared) (m .arrival, m .accepted) 52 (λ _. prepared-most _ _) in
+    let a₉ = when-cost noValues values (h .values) (m .values) 68 (λ e. omega (arith, w .values e, values-length (m .values) (omega (arith, w .values e, z .values)))) in
     omega (arith, put-length m, body-length h (bodyOf m), most-small (m .code))
 
 -- an Accept with eight pieces

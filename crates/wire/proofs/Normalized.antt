@@ -84,6 +84,7 @@ normal-bytes m z w =
       when-same 0 u32 (h .server) (m .server) (m .server) (λ _. refl),
       when-same 0 u32 (h .ballot) (m .ballot) (m .ballot) (λ _. refl),
       when-same 0 u32 (h .promise) (m .promise) (m .promise) (λ _. refl),
+      when-same 0 u32 (h .ran) (m .ran) (m .ran) (λ _. refl),
       when-same noPieces pieces (h .pieces) (m .pieces) (normalPieces (m .pieces)) (λ e. pieces-same (m .pieces) (omega (arith, w .pieces e, z .pieces))),
       when-same noSet set4 (h .set) (m .set) (m .set) (λ _. refl),
       when-same 0 u64 (h .word) (m .word) (m .word) (λ _. refl),
@@ -156,10 +157,13 @@ normal-fine m f w =
               (
                 (
                   (
-                    (f .t, when-fine 0 u32 (h .server) (m .server) (λ _. f .server)),
-                    when-fine 0 u32 (h .ballot) (m .ballot) (λ _. f .ballot),
+                    (
+                      (f .t, when-fine 0 u32 (h .server) (m .server) (λ _. f .server)),
+                      when-fine 0 u32 (h .ballot) (m .ballot) (λ _. f .ballot),
+                    ),
+                    when-fine 0 u32 (h .promise) (m .promise) (λ _. f .promise),
                   ),
-                  when-fine 0 u32 (h .promise) (m .promise) (λ _. f .promise),
+                  when-fine 0 u32 (h .ran) (m .ran) (λ _. f .ran),
                 ),
                 when-fine noPieces pieces (h .pieces) (normalPieces (m .pieces)) (λ e. pieces-fine (m .pieces) (z .pieces) (w .pieces e) (f .pieces)),
               ),

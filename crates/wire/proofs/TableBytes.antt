@@ -1,4 +1,4 @@
--- The bytes of each message of document 01's table: its code and then its fields, in the table's order and in no other. A number is four bytes, the greatest first, a word eight.
+-- The bytes of each message of document 01's table, with the count that request 2 puts at the end of a CommitOK: its code and then its fields, in the table's order and in no other. A number is four bytes, the greatest first, a word eight.
 -- Assumes nothing.
 use mathlib.Core.Path.{_≡_, refl}
 use mathlib.Core.Bool.{Bool, true, false}
@@ -111,9 +111,10 @@ module _ (t s : ℕ) where
   unfolding bytes code body shapeOf be
   acceptOK-bytes b = refl
 
-  pub commitOK-bytes : bytes .put (commitOK t s) ≡ be 4 18 ++ be 4 t ++ be 4 s
+  -- the count of what ran is the last of it
+  pub commitOK-bytes : (n : ℕ) → bytes .put (commitOK t s n) ≡ be 4 18 ++ be 4 t ++ be 4 s ++ be 4 n
   unfolding bytes code body shapeOf be
-  commitOK-bytes = refl
+  commitOK-bytes n = refl
 
   pub prepareOK-bytes : (b : ℕ) (a : MaybeWord) (c : MaybeVote) → bytes .put (prepareOK t s b a c) ≡ be 4 19 ++ be 4 t ++ be 4 s ++ be 4 b ++ maybeWord .put a ++ maybeVote .put c
   unfolding bytes code body shapeOf be

@@ -75,17 +75,18 @@ unfolding maybeVote
 vote-window = as-window (λ (p : Bool × (ℕ × Set)). record { some = flag (p .0); ballot = p .1 .0; set = p .1 .1 }) maybeVote (λ s c. refl) (maybe-window (0, noSet) (then-window u32-window set-window))
 
 body-window : (h : Shape) → Windowed (body h)
-    ((((((((4 + cost (h .server) 4) + cost (h .ballot) 4) + cost (h .promise) 4) + cost (h .pieces) 132) + cost (h .set) 32) + cost (h .word) 8) + cost (h .prepared) 52) + cost (h .values) 68)
+    (((((((((4 + cost (h .server) 4) + cost (h .ballot) 4) + cost (h .promise) 4) + cost (h .ran) 4) + cost (h .pieces) 132) + cost (h .set) 32) + cost (h .word) 8) + cost (h .prepared) 52) + cost (h .values) 68)
 unfolding body
 body-window h =
     let w₁ = then-window u32-window (when-window 0 (h .server) u32-window) in
     let w₂ = then-window w₁ (when-window 0 (h .ballot) u32-window) in
     let w₃ = then-window w₂ (when-window 0 (h .promise) u32-window) in
-    let w₄ = then-window w₃ (when-window noPieces (h .pieces) pieces-window) in
-    let w₅ = then-window w₄ (when-window noSet (h .set) set-window) in
-    let w₆ = then-window w₅ (when-window 0 (h .word) u64-window) in
-    let w₇ = then-window w₆ (when-window (noWord, noVote) (h .prepared) (then-window word-window vote-window)) in
-    then-window w₇ (when-window noValues (h .values) values-window)
+    let w₄ = then-window w₃ (when-window 0 (h .ran) u32-window) in
+    let w₅ = then-window w₄ (when-window noPieces (h .pieces) pieces-window) in
+    let w₆ = then-window w₅ (when-window noSet (h .set) set-window) in
+    let w₇ = then-window w₆ (when-window 0 (h .word) u64-window) in
+    let w₈ = then-window w₇ (when-window (noWord, noVote) (h .prepared) (then-window word-window vote-window)) in
+    then-window w₈ (when-window noValues (h .values) values-window)
 
 bytes-window : Windowed bytes 176
 unfolding bytes code

@@ -53,3 +53,4 @@ pub record Fits (m : Message) : Type 0 where
   pub accepted : SetFits (m .accepted .set)
   pub values : Each ValueFits (m .values .list)
   pub valueCount : m .values .count < 2 ^ 32
+  pub ran : m .ran < 2 ^ 32

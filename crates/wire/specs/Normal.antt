@@ -49,6 +49,7 @@ normalBy h m =
       arrival = normalWord (m .arrival) if h .prepared else noWord;
       accepted = normalVote (m .accepted) if h .prepared else noVote;
       values = normalValues (m .values) if h .values else noValues;
+      ran = m .ran if h .ran else 0;
     }
 
 unfoldable pub normal : Message → Message

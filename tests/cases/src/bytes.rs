@@ -17,6 +17,7 @@ fn write_item(out: &mut Vec<u8>, message: &Message, item: Item) {
         Item::Server => number(out, message.server),
         Item::Ballot | Item::Asked => number(out, message.ballot),
         Item::Promise => number(out, message.promise),
+        Item::Ran => number(out, message.ran),
         Item::Set => set(out, &message.set),
         Item::Word => word(out, message.word),
         Item::Pieces => {
@@ -78,6 +79,7 @@ fn read_item(message: &mut Message, item: Item, from: &mut dyn Iterator<Item = u
         Item::Server => message.server = from.next()?,
         Item::Ballot | Item::Asked => message.ballot = from.next()?,
         Item::Promise => message.promise = from.next()?,
+        Item::Ran => message.ran = from.next()?,
         Item::Set => message.set = read_set(from)?,
         Item::Word => message.word = read_word(from)?,
         Item::Pieces => {

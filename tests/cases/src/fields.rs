@@ -116,6 +116,7 @@ fn visit_message(message: &mut Message, visit: Visit) {
     message.arrival.visit(visit);
     message.accepted.visit(visit);
     message.values.visit(visit);
+    visit(Place::Number(&mut message.ran));
 }
 
 fn message() -> Vec<String> {
@@ -124,6 +125,7 @@ fn message() -> Vec<String> {
     names.extend(under("", &["set.w0", "set.w1", "set.w2", "set.w3", "word"]));
     names.extend(under("", &WORD_AND_VOTE));
     names.extend(values(""));
+    names.extend(under("", &["ran"]));
     names
 }
 

@@ -22,11 +22,13 @@ pub enum Item {
     /// An optional ballot and set.
     Accepted,
     Values,
+    /// The count of what ran.
+    Ran,
 }
 
-use Item::{Accepted, Arrived, Asked, Ballot, Promise, Server, Set, Word, T};
+use Item::{Accepted, Arrived, Asked, Ballot, Promise, Ran, Server, Set, Word, T};
 
-/// Code, message, fields: the table of document 01, line by line.
+/// Code, message, fields: the table of document 01, line by line, with the count that document 02 gives a CommitOK.
 pub const MESSAGES: [(u32, &str, &[Item]); 14] = [
     (0, "PreAccept", &[T, Ballot, Item::Pieces]),
     (1, "Accept", &[T, Ballot, Item::Pieces, Set]),
@@ -36,7 +38,7 @@ pub const MESSAGES: [(u32, &str, &[Item]); 14] = [
     (5, "Fetch", &[T]),
     (16, "PreAcceptOK", &[T, Server, Ballot, Word]),
     (17, "AcceptOK", &[T, Server, Ballot]),
-    (18, "CommitOK", &[T, Server]),
+    (18, "CommitOK", &[T, Server, Ran]),
     (19, "PrepareOK", &[T, Server, Ballot, Arrived, Accepted]),
     (20, "Done", &[T, Item::Pieces, Set]),
     (21, "Behind", &[T, Server, Asked, Promise]),
@@ -73,6 +75,7 @@ fn field(message: &mut Message, item: Item, words: &mut Words) -> Read<()> {
         Ballot => message.ballot = words.number_after("ballot")?,
         Asked => message.ballot = words.number_after("asked")?,
         Promise => message.promise = words.number_after("promise")?,
+        Ran => message.ran = words.number_after("ran")?,
         Item::Pieces => message.pieces = pieces(words)?,
         Item::Values => message.values = values(words)?,
         Set | Word | Arrived | Accepted => {
@@ -148,6 +151,7 @@ fn show_field(message: &Message, item: Item) -> String {
         Ballot => format!("ballot {}", message.ballot),
         Asked => format!("asked {}", message.ballot),
         Promise => format!("promise {}", message.promise),
+        Ran => format!("ran {}", message.ran),
         Item::Pieces => match message.pieces.count {
             0 => "no pieces".to_string(),
             1..=8 => parts::show_pieces(&message.pieces),

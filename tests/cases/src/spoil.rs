@@ -75,8 +75,8 @@ fn other_byte(bytes: &[u8], turn: usize) -> Vec<u8> {
 
 /// A field changed, whether the code has it or not.
 fn other_message(mut message: Message, turn: usize) -> Message {
-    let place = turn / 12 % 8;
-    match turn % 12 {
+    let place = turn / 13 % 8;
+    match turn % 13 {
         0 => message.code ^= 1,
         1 => message.t ^= 1 << 31,
         2 => message.server ^= 1,
@@ -88,6 +88,7 @@ fn other_message(mut message: Message, turn: usize) -> Message {
         8 => message.word ^= 1 << 32,
         9 => message.arrival.some ^= 1,
         10 => message.accepted.set.w1 ^= 1,
+        11 => message.ran ^= 1 << 31,
         _ => message.values.list[place].kept ^= 1,
     }
     message

@@ -62,11 +62,13 @@ fn a_field_is_the_one_of_its_name() {
         assert_eq!(fields::many(&state), fields::names(&state).len());
     }
     let mut lent = layout::Message::default();
-    for said in ["promise = 5", "word = {1}", "accepted.some = 6", "values.list[0].value = -8", "values.count = 9"] {
+    for said in
+        ["promise = 5", "word = {1}", "accepted.some = 6", "values.list[0].value = -8", "values.count = 9", "ran = 7"]
+    {
         fields::store_in_message(&mut lent, &mut Words::of(said)).expect("a field of a message");
     }
     assert_eq!((lent.promise, lent.word, lent.accepted.some), (5, 2, 6));
-    assert_eq!((lent.values.list[0].value, lent.values.count), (-8, 9));
+    assert_eq!((lent.values.list[0].value, lent.values.count, lent.ran), (-8, 9, 7));
 }
 
 #[test]
@@ -80,7 +82,7 @@ fn a_message_is_read_back_from_its_text_and_its_bytes() {
         "Fetch T8",
         "PreAcceptOK T8 server 1 ballot 2 word {0..63}",
         "AcceptOK T8 server 1 ballot 2",
-        "CommitOK T8 server 1",
+        "CommitOK T8 server 1 ran 4294967295",
         "PrepareOK T8 server 1 ballot 2 arrived {1} accepted {} {} {2} {} at 8",
         "PrepareOK T8 server 1 ballot 2 arrived none accepted none",
         "Done T8 (0,3,put,5) set empty",

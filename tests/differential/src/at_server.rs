@@ -1,5 +1,6 @@
 //! Servers side by side.
 
+use crate::commits;
 use crate::compare::{code, judge, Compared, Difference, Outcome, OLD};
 use crate::coverage::Coverage;
 use crate::effects::{self, Marks};
@@ -56,7 +57,7 @@ fn compare_calls<A: Lent, B: Lent>(
         let (their_outcome, marks) = make(b, &mut theirs, &call)?;
         let after = a.see_server(&ours);
         let ran = pieces_run(&before, &after);
-        note(seen, &call, &our_outcome);
+        note(seen, &before, &call, &our_outcome);
         ran.iter().for_each(|done| seen.note_effect(effects::effect(done)));
         let states = difference(&after, &b.see_server(&theirs));
         let found = || effects::marks(&b.server_image(&theirs));
@@ -95,12 +96,13 @@ fn make<E: Lent>(engine: &E, server: &mut E::Server, call: &Call) -> Result<(Out
     Ok((outcome, effects::marks(&before)))
 }
 
-fn note(seen: &mut Coverage, call: &Call, outcome: &Outcome) {
+fn note(seen: &mut Coverage, before: &Server, call: &Call, outcome: &Outcome) {
     let answer = outcome.answer.as_ref().map(|numbers| numbers[0]).map_err(|refusal| *refusal);
     match call {
         Call::Take { message, .. } => {
             let answered = answer.map(|_| u64::from(code(&outcome.buffer)));
-            seen.note(&format!("server takes {}", code(message)), answered)
+            seen.note(&format!("server takes {}", code(message)), answered);
+            commits::note(seen, before, message, outcome)
         }
         Call::Run => seen.note("run", answer.map(|many| many.min(2))),
         Call::RunAll => seen.note("run until 0", answer.map(|many| many.min(2))),

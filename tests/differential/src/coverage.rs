@@ -9,8 +9,8 @@ pub struct Coverage {
     met: BTreeMap<String, u64>,
 }
 
-/// For each call the refusals that it can give and the answers that it must give: codes of messages, or counts.
-const MUST: [(&str, &[u32], &[u64]); 22] = [
+/// For each call the refusals that it can give and the answers that it must give: codes of messages, or counts, of which 2 is any above 1.
+const MUST: [(&str, &[u32], &[u64]); 28] = [
     ("fresh", &[1], &[]),
     ("server takes 0", &[10, 11, 12, 13, 1, 2, 4, 5, 14], &[16, 20, 21]),
     ("server takes 1", &[10, 11, 12, 13, 1, 2, 3, 4, 5, 14], &[17, 20, 21]),
@@ -20,6 +20,12 @@ const MUST: [(&str, &[u32], &[u64]); 22] = [
     ("server takes 5", &[10, 11, 13, 1, 14], &[22, 23]),
     ("server takes 20", &[10, 11, 12, 13, 1, 2, 3, 5, 6, 14], &[18]),
     ("server takes 16", &[12, 13], &[]),
+    ("a new Commit runs", &[], &[0, 1, 2]),
+    ("a repeated Commit runs", &[], &[0, 1, 2]),
+    ("a Commit with a number ready", &[10, 11, 12, 1, 2, 3, 5, 6, 14], &[]),
+    ("a new Done runs", &[], &[0, 1, 2]),
+    ("a repeated Done runs", &[], &[0, 1, 2]),
+    ("a Done with a number ready", &[10, 11, 12, 1, 2, 3, 5, 6, 14], &[]),
     ("run", &[13], &[0, 1, 2]),
     ("run until 0", &[13], &[0, 1, 2]),
     ("wanted", &[13], &[0, 1]),

@@ -4,6 +4,7 @@
 
 mod at_drive;
 mod at_server;
+mod commits;
 mod compare;
 mod coverage;
 mod effects;

@@ -104,7 +104,7 @@ fn any(chance: &mut Chance) -> Message {
         5 => Message::Fetch { t },
         16 => Message::PreAcceptOk { t, server, ballot, word: word(chance) },
         17 => Message::AcceptOk { t, server, ballot },
-        18 => Message::CommitOk { t, server },
+        18 => Message::CommitOk { t, server, ran: edge(chance) },
         19 => Message::PrepareOk { t, server, ballot, arrival: None, accepted: Some(Vote { ballot, set }) },
         20 => Message::Done { t, pieces, set },
         21 => Message::Behind { t, server, asked: ballot, promise: edge(chance) },

@@ -4,8 +4,10 @@ use crate::messages::{for_drive, for_server};
 use crate::values::{ballot, damage, edge, fill, near_an_end, usual_pieces, FEW};
 use chance::Chance;
 use engine::layout::{self, Numbers};
+use engine::ran::take_back;
 use engine::{image, Engine, Plain, LONGEST};
 use model::cluster::origin;
+use model::Set;
 
 /// How a state is changed before it is lent.
 enum Dress {
@@ -60,18 +62,38 @@ fn any_counter(chance: &mut Chance) -> layout::Counter {
     layout::Counter { value: near_an_end(chance), full }
 }
 
-/// A server after some messages and runs.
+/// A server after some messages. In most, numbers are ready, as they never are in one that began fresh: the runs of some steps were taken back, and some numbers were committed and not run.
 fn walked_server(chance: &mut Chance) -> model::Server {
     let mut server = model::Server::fresh(chance.below(12)).expect("a server of the cluster");
-    let runs = chance.percent(70);
+    let unrun = chance.pick(&[0, 30, 90]);
     for _ in 0..chance.pick(&[0, 4, 20, 60]) {
+        let before = server.clone();
         let message = for_server(chance, &server);
         let taken = Plain.take(&mut server, &message, &mut [0; LONGEST]);
-        if taken.is_ok() && runs && chance.percent(20) {
+        if chance.percent(unrun) {
+            take_back(&mut server, &before);
+        }
+        if taken.is_ok() && chance.percent(5) {
             Plain.run(&mut server).expect("a server in form runs");
         }
     }
+    for _ in 0..chance.pick(&[0, 1, 3]) {
+        hold_unrun(chance, &mut server);
+    }
     server
+}
+
+/// Holds a number as committed, after some of those that are committed already.
+fn hold_unrun(chance: &mut Chance, server: &mut model::Server) {
+    let t = if chance.percent(80) { chance.pick(&FEW) } else { chance.below(64) };
+    let committed = (0..64).filter(|u| server.record(*u).committed.is_some()).fold(0, |word, u| word | 1u64 << u);
+    let earlier = committed & if chance.percent(50) { chance.word() } else { 0 };
+    let record = server.record_mut(t);
+    if record.committed.is_none() {
+        let pieces = *record.pieces.get_or_insert(usual_pieces(t));
+        let first = pieces.shards().next().expect("good pieces have a shard");
+        record.committed = Some(Set::EMPTY.with(first, earlier));
+    }
 }
 
 /// A drive after its beginning and some replies.

@@ -1,6 +1,6 @@
 //! The proved library behind the same door, through `drobulets::raw`. It is linked only with the feature `archive`.
 
-use crate::{image, layout, Due, Engine, Lent};
+use crate::{image, layout, Due, Engine, Ledger, Lent};
 use drobulets::raw;
 use model::{Pieces, Refusal, Set};
 
@@ -83,6 +83,10 @@ impl Engine for Archive {
 
     fn see_server(&self, server: &layout::Server) -> model::Server {
         image::server(server)
+    }
+
+    fn see_ledger(&self, server: &layout::Server) -> Ledger {
+        image::ledger(server)
     }
 
     fn see_drive(&self, drive: &layout::Drive) -> model::Drive {

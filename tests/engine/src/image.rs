@@ -1,6 +1,6 @@
 //! Between the lent memory and the model's state. What the memory ignores, the model doesn't have, and it comes back as 0; a flag or mark that is set comes back as 1.
 
-use crate::layout;
+use crate::{layout, Ledger};
 use model::drive::Answer;
 use model::server::{Log, Record};
 use model::{Counter, Drive, Piece, Pieces, Server, Set, Value, Values, Vote};
@@ -106,6 +106,11 @@ fn counter(image: layout::Counter) -> Counter {
 
 fn counter_image(counter: Counter) -> layout::Counter {
     layout::Counter { value: counter.value, full: counter.full.into() }
+}
+
+pub fn ledger(image: &layout::Server) -> Ledger {
+    let committed = std::array::from_fn(|t| maybe_set(&image.records[t].committed));
+    Ledger { committed, log: Log { count: image.log.count, list: image.log.list } }
 }
 
 pub fn server(image: &layout::Server) -> Server {

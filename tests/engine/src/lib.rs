@@ -8,6 +8,8 @@ pub mod plain;
 pub mod ran;
 pub mod text;
 
+use model::cluster::NUMBERS;
+use model::server::Log;
 use model::{Pieces, Refusal, Set};
 
 pub use drobulets::layout;
@@ -22,14 +24,14 @@ pub type Tested = Plain;
 
 /// A server and a drive of document 01, over messages as bytes. A refusal changes neither the state nor the buffer that was lent.
 pub trait Engine {
-    type Server: Clone;
+    type Server: Clone + PartialEq;
     type Drive: Clone;
 
     /// A server that has seen nothing.
     fn fresh(&self, id: u32) -> Result<Self::Server, Refusal>;
-    /// Decodes a message, takes it, and encodes the answer to the front of `answer`. Gives the answer's length.
+    /// Decodes a message, takes it, and encodes the answer to the front of `answer`. Gives the answer's length. A Commit or a Done is committed and runs until 0.
     fn take(&self, server: &mut Self::Server, message: &[u8], answer: &mut [u8]) -> Result<usize, Refusal>;
-    /// One run; how many ran.
+    /// One run alone, as at start-up; how many ran.
     fn run(&self, server: &mut Self::Server) -> Result<u32, Refusal>;
     /// Runs until 0; how many ran in all.
     fn run_all(&self, server: &mut Self::Server) -> Result<u32, Refusal>;
@@ -54,7 +56,21 @@ pub trait Engine {
 
     /// The whole state, to be read.
     fn see_server(&self, server: &Self::Server) -> model::Server;
+    /// The little of a server's state that says what is closed and what has run.
+    fn see_ledger(&self, server: &Self::Server) -> Ledger;
     fn see_drive(&self, drive: &Self::Drive) -> model::Drive;
+}
+
+/// The committed set of each number, and the log.
+pub struct Ledger {
+    pub committed: [Option<Set>; NUMBERS as usize],
+    pub log: Log,
+}
+
+impl Ledger {
+    pub fn of(server: &model::Server) -> Ledger {
+        Ledger { committed: std::array::from_fn(|t| server.records[t].committed), log: server.log }
+    }
 }
 
 /// The length of the message due, and the servers that it is for: bit s for server s.

@@ -5,7 +5,7 @@ use model::Message;
 
 /// The model's message of the same fields. It has none for a code that no message has.
 pub fn message(lent: &layout::Message) -> Option<Message> {
-    let layout::Message { code, t, server, ballot, promise, word, .. } = *lent;
+    let layout::Message { code, t, server, ballot, promise, word, ran, .. } = *lent;
     let (pieces, set) = (image::pieces(&lent.pieces), image::set(&lent.set));
     Some(match code {
         0 => Message::PreAccept { t, ballot, pieces },
@@ -16,7 +16,7 @@ pub fn message(lent: &layout::Message) -> Option<Message> {
         5 => Message::Fetch { t },
         16 => Message::PreAcceptOk { t, server, ballot, word },
         17 => Message::AcceptOk { t, server, ballot },
-        18 => Message::CommitOk { t, server },
+        18 => Message::CommitOk { t, server, ran },
         19 => {
             let (arrival, accepted) = (image::word(&lent.arrival), image::vote(&lent.accepted));
             Message::PrepareOk { t, server, ballot, arrival, accepted }
@@ -37,6 +37,7 @@ pub fn message_image(message: &Message) -> layout::Message {
     lent.set = message.set().map_or(Default::default(), image::set_image);
     match message {
         Message::PreAcceptOk { word, .. } => lent.word = *word,
+        Message::CommitOk { ran, .. } => lent.ran = *ran,
         Message::PrepareOk { arrival, accepted, .. } => {
             lent.arrival = image::word_image(*arrival);
             lent.accepted = image::vote_image(*accepted);

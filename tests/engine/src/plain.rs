@@ -1,6 +1,6 @@
 //! The model behind the door.
 
-use crate::{image, layout, Due, Engine, Lent, LONGEST};
+use crate::{image, layout, Due, Engine, Ledger, Lent, LONGEST};
 use model::codec::{decode, encode};
 use model::{drive, run, server, Drive, Pieces, Refusal, Server, Set};
 
@@ -70,6 +70,10 @@ impl Engine for Plain {
 
     fn see_server(&self, server: &Server) -> Server {
         server.clone()
+    }
+
+    fn see_ledger(&self, server: &Server) -> Ledger {
+        Ledger::of(server)
     }
 
     fn see_drive(&self, drive: &Drive) -> Drive {

@@ -1,4 +1,4 @@
-//! What runs did to the counters of a server, piece by piece, read off its states before and after them.
+//! What runs did to a server, read off its states before and after them: to its counters, piece by piece; and the server without it.
 
 use model::counters::do_piece;
 use model::{Counter, Piece, Server};
@@ -37,4 +37,12 @@ pub fn pieces_run(before: &Server, after: &Server) -> Vec<Done> {
         }
     }
     done
+}
+
+/// Leaves what a step holds, and none of what it ran: the Commit without its runs.
+pub fn take_back(server: &mut Server, before: &Server) {
+    let logged = before.log.entries().len();
+    let ran: Vec<u32> = server.log.entries()[logged..].to_vec();
+    ran.into_iter().for_each(|t| server.record_mut(t).results = None);
+    (server.log, server.counters) = (before.log, before.counters);
 }

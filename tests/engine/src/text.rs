@@ -90,7 +90,7 @@ pub fn message(message: &Message) -> String {
             format!("PreAcceptOK T{t} server {server} ballot {ballot} word {}", word(*w))
         }
         Message::AcceptOk { t, server, ballot } => format!("AcceptOK T{t} server {server} ballot {ballot}"),
-        Message::CommitOk { t, server } => format!("CommitOK T{t} server {server}"),
+        Message::CommitOk { t, server, ran } => format!("CommitOK T{t} server {server} ran {ran}"),
         Message::PrepareOk { t, server, ballot, arrival, accepted } => {
             let (arrival, accepted) = (word_or_none(*arrival), vote_or(*accepted, "nothing"));
             format!("PrepareOK T{t} server {server} ballot {ballot} arrived {arrival} accepted {accepted}")

@@ -1,7 +1,6 @@
-//! Times a million steps of a server, of which most are taken and some refused, and the runs between them.
+//! Times a million steps of a server, of which most are taken and some refused, with the runs of its Commits.
 
 use chance::Chance;
-use model::run::run_all;
 use model::server::step;
 use model::{Message, Piece, Pieces, Server, Set};
 use std::time::Instant;
@@ -39,9 +38,10 @@ fn main() {
         if n % 1000 == 0 {
             server = Server::fresh(0).unwrap();
         }
-        taken += u32::from(step(&mut server, &message(&mut chance)).is_ok());
-        if n % 100 == 99 {
-            ran += run_all(&mut server).unwrap();
+        let answer = step(&mut server, &message(&mut chance));
+        taken += u32::from(answer.is_ok());
+        if let Ok(Message::CommitOk { ran: more, .. }) = answer {
+            ran += more;
         }
     }
     let seconds = begun.elapsed().as_secs_f64();

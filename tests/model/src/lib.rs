@@ -1,4 +1,4 @@
-//! Document 01 in plain Rust: one server, one coordinator drive, and the codec between them.
+//! Document 01, as changed by requests 1 and 2 of document 02, in plain Rust: one server, one coordinator drive, and the codec between them.
 //!
 //! Each module has one section of the document, in its order of sentences:
 //!

@@ -16,7 +16,7 @@ pub enum Message {
     Fetch { t: u32 },
     PreAcceptOk { t: u32, server: u32, ballot: u32, word: u64 },
     AcceptOk { t: u32, server: u32, ballot: u32 },
-    CommitOk { t: u32, server: u32 },
+    CommitOk { t: u32, server: u32, ran: u32 },
     PrepareOk { t: u32, server: u32, ballot: u32, arrival: Option<u64>, accepted: Option<Vote> },
     Done { t: u32, pieces: Pieces, set: Set },
     Behind { t: u32, server: u32, asked: u32, promise: u32 },

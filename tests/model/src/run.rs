@@ -15,10 +15,15 @@ pub fn run(server: &mut Server) -> Result<u32, Refusal> {
 /// Runs until 0, and answers how many ran in all. No closed number is then left unrun.
 pub fn run_all(server: &mut Server) -> Result<u32, Refusal> {
     refuse_if(!keeps_form(server), Refusal::BrokenForm)?;
+    Ok(until_0(server))
+}
+
+/// The runs of a server that keeps its form, until one runs nothing; how many ran in all.
+pub fn until_0(server: &mut Server) -> u32 {
     let mut many = 0;
     loop {
         match run_once(server) {
-            0 => return Ok(many),
+            0 => return many,
             more => many += more,
         }
     }

@@ -65,9 +65,8 @@ fn t1_of_d() -> Pieces {
 #[test]
 fn d_two_that_name_each_other_run_together_in_rising_number() {
     let mut server = fresh(0);
-    commit(&mut server, 8, t8_of_d(), [0, 2, 0, 0]);
-    commit(&mut server, 1, t1_of_d(), [256, 0, 0, 0]);
-    assert_eq!(run(&mut server), Ok(2));
+    assert_eq!(commit(&mut server, 8, t8_of_d(), [0, 2, 0, 0]), 0);
+    assert_eq!(commit(&mut server, 1, t1_of_d(), [256, 0, 0, 0]), 2);
     assert_eq!(server.log.entries(), [1, 8]);
     assert_eq!(server.counters[3].reading(), Value { value: 5, kept: false });
     assert_eq!(run(&mut server), Ok(0));
@@ -76,8 +75,8 @@ fn d_two_that_name_each_other_run_together_in_rising_number() {
 #[test]
 fn e_a_number_that_waits_wants_what_it_waits_for() {
     let mut server = fresh(0);
-    commit(&mut server, 8, t8_of_d(), [0, 2, 0, 0]);
-    assert_eq!(run(&mut server), Ok(0));
+    assert_eq!(commit(&mut server, 8, t8_of_d(), [0, 2, 0, 0]), 0);
+    assert_eq!(server.log.entries(), []);
     assert_eq!(wanted(&server), Ok(set([0, 2, 0, 0])));
 }
 
@@ -85,9 +84,9 @@ fn e_a_number_that_waits_wants_what_it_waits_for() {
 fn f_one_after_the_other_runs_one_by_one() {
     let mut server = fresh(0);
     let touching = pieces(&[(0, 0, ADD, 1)]);
-    commit(&mut server, 1, touching, [0; 4]);
-    commit(&mut server, 2, touching, [2, 0, 0, 0]);
-    assert_eq!((run(&mut server), run(&mut server), run(&mut server)), (Ok(1), Ok(1), Ok(0)));
+    assert_eq!(commit(&mut server, 1, touching, [0; 4]), 1);
+    assert_eq!(commit(&mut server, 2, touching, [2, 0, 0, 0]), 1);
+    assert_eq!(run(&mut server), Ok(0));
     assert_eq!(server.log.entries(), [1, 2]);
 }
 
@@ -106,8 +105,7 @@ fn one_after_the_other(done: &[&[(u32, u32, u32, i32)]]) -> Vec<(i32, bool)> {
     (0..)
         .zip(done)
         .map(|(t, list)| {
-            commit(&mut server, t, pieces(list), after(t));
-            assert_eq!(run(&mut server), Ok(1));
+            assert_eq!(commit(&mut server, t, pieces(list), after(t)), 1);
             let results = server.record(t).results.unwrap();
             let last = results.entries().last().unwrap();
             (last.value, last.kept)

@@ -25,7 +25,8 @@ fn examples() -> Vec<Message> {
         Message::Fetch { t: 9 },
         Message::PreAcceptOk { t: 8, server: 2, ballot: 0, word: 0x0102_0304_0506_0708 },
         Message::AcceptOk { t: 8, server: 2, ballot: 0 },
-        Message::CommitOk { t: 8, server: 2 },
+        Message::CommitOk { t: 8, server: 2, ran: 0 },
+        Message::CommitOk { t: u32::MAX, server: u32::MAX, ran: u32::MAX },
         prepared(None, None),
         prepared(Some(256), None),
         prepared(None, vote),
@@ -72,6 +73,13 @@ fn a_whole_message_by_hand() {
         [255, 255, 255, 254],
     ];
     assert_eq!(bytes_of(&message).unwrap(), bytes.concat());
+}
+
+#[test]
+fn the_count_of_a_commit_ok_is_its_last_four_bytes() {
+    let bytes = [[0, 0, 0, 18], [0, 0, 0, 8], [0, 0, 0, 2], [1, 2, 3, 4]];
+    assert_eq!(bytes_of(&Message::CommitOk { t: 8, server: 2, ran: 0x0102_0304 }).unwrap(), bytes.concat());
+    assert_eq!(decode(&bytes[..3].concat()).map_err(number), Err(10));
 }
 
 #[test]

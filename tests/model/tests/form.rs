@@ -12,9 +12,8 @@ use model::{Drive, Message, Server, Value, Values, Vote};
 fn rich() -> Server {
     let mut server = fresh(4);
     let both = pieces(&[(0, 3, 1, 5), (1, 0, 1, 5)]);
-    commit(&mut server, 8, both, [0; 4]);
-    assert_eq!(run_all(&mut server), Ok(1));
-    commit(&mut server, 1, both, [256, 256 | 1 << 20, 0, 0]);
+    assert_eq!(commit(&mut server, 8, both, [0; 4]), 1);
+    assert_eq!(commit(&mut server, 1, both, [256, 256 | 1 << 20, 0, 0]), 0);
     take(&mut server, Message::Accept { t: 2, ballot: 11, pieces: both, set: set([2, 0, 0, 0]) });
     take(&mut server, Message::PreAccept { t: 3, ballot: 0, pieces: both });
     assert!(keeps_form(&server));

@@ -117,7 +117,7 @@ fn a_server_refuses_every_answer_but_done_as_unknown() {
     let answers = [
         Message::PreAcceptOk { t: 64, server: 12, ballot: 3, word: 0 },
         Message::AcceptOk { t: 64, server: 12, ballot: 3 },
-        Message::CommitOk { t: 64, server: 12 },
+        Message::CommitOk { t: 64, server: 12, ran: 65 },
         Message::PrepareOk { t: 64, server: 12, ballot: 3, arrival: None, accepted: None },
         Message::Behind { t: 64, server: 12, asked: 3, promise: 3 },
         Message::NotYet { t: 64, server: 12 },
@@ -193,7 +193,7 @@ fn a_drive_refuses_codes_that_it_does_not_take_before_all_else() {
     let mut over = recovering();
     drive::reply(&mut over, &Message::Done { t: 8, pieces: ours(), set: set([0; 4]) }).unwrap();
     let untaken = [
-        Message::CommitOk { t: 64, server: 12 },
+        Message::CommitOk { t: 64, server: 12, ran: 65 },
         Message::NotYet { t: 64, server: 12 },
         Message::Results { t: 64, server: 12, values: Default::default() },
         Message::Inquire { t: 64 },

@@ -7,20 +7,6 @@ use common::*;
 use model::run::{run, Waits};
 use model::{Counter, Server};
 
-const NUMBERS: u32 = 12;
-
-/// A server with some of twelve numbers committed, each after a few of the others.
-fn by_chance(chance: &mut Chance) -> Server {
-    let mut server = fresh(0);
-    for t in (0..NUMBERS).filter(|_| chance.percent(80)).collect::<Vec<_>>() {
-        let density = chance.below(4);
-        let named = (0..NUMBERS).filter(|u| *u != t && chance.below(10) < density).fold(0, |word, u| word | 1u64 << u);
-        let key = chance.below(3);
-        commit(&mut server, t, pieces(&[(0, key, 2, t as i32), (1, 0, 1, 0)]), [named, named >> 3 & !(1 << t), 0, 0]);
-    }
-    server
-}
-
 fn committed(server: &Server, t: u32) -> bool {
     server.record(t).committed.is_some()
 }
@@ -83,8 +69,7 @@ fn a_run_takes_the_lowest_ready_number_and_those_before_and_after_it() {
 #[test]
 fn a_number_without_pieces_here_is_logged_with_no_results() {
     let mut server = fresh(9);
-    commit(&mut server, 5, pieces(&[(0, 0, 1, 1)]), [0; 4]);
-    assert_eq!(run(&mut server), Ok(1));
+    assert_eq!(commit(&mut server, 5, pieces(&[(0, 0, 1, 1)]), [0; 4]), 1);
     assert_eq!(server.log.entries(), [5]);
     assert_eq!(server.record(5).results.unwrap().count, 0);
     assert_eq!(server.counters, [Counter::default(); 16]);

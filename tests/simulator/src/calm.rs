@@ -1,4 +1,4 @@
-//! After the faults: all trunks are up and nothing is lost. Every number that was begun is driven to its end, every server learns what it wants, and all of it runs.
+//! After the faults: all trunks are up and nothing is lost. Every number that was begun is driven to its end, every server learns what it wants, and all of it has run; then every server is started up anew.
 
 use crate::checks::{Check, Fault};
 use crate::cluster::Cluster;
@@ -23,6 +23,7 @@ pub fn calm_down<E: Engine>(cluster: &mut Cluster<E>) {
     for t in &begun {
         fetched_alike(cluster, *t);
     }
+    (0..SERVERS).for_each(|server| cluster.run(server, server % 2 == 0));
 }
 
 /// The origin recovers a number and goes on until its Commit is taken by every server of its shards.
@@ -52,10 +53,9 @@ fn drive_to_its_end<E: Engine>(cluster: &mut Cluster<E>, t: u32) {
     cluster.blame(Some(stands_still(t, "it isn't committed")));
 }
 
-/// A server asks for what it wants until it wants nothing, and runs until 0.
+/// A server asks for what it wants until it wants nothing.
 fn catch_up<E: Engine>(cluster: &mut Cluster<E>, server: u32) {
     for _ in 0..ENOUGH {
-        cluster.run(server, true);
         let wanted = cluster.wanted(server);
         if wanted.all() == 0 {
             return;

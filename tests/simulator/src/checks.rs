@@ -1,5 +1,6 @@
 //! What must hold of every lawful history.
 
+use engine::Ledger;
 use model::cluster::{numbers_in, only, servers_of, NUMBERS, SERVERS, SHARDS};
 use model::{Pieces, Server};
 use std::collections::BTreeMap;
@@ -16,8 +17,10 @@ pub enum Check {
     EqualCounters,
     /// A number has the same results at every server of the shard that ran it, kept or not.
     EqualResults,
-    /// A run answers how many it logged.
-    RunCount,
+    /// A Commit or a Done answers how many it logged, and nothing else logs any.
+    Count,
+    /// After every step no server has a closed number that has not run; so a run alone gives 0 and changes nothing.
+    ClosedRan,
     /// Refusals 5, 6 and 13 are never given, nor any other that no host asked for.
     Refusals,
     /// With all trunks up, every number that was begun can be driven to its end and runs.
@@ -31,7 +34,8 @@ impl fmt::Display for Check {
             Check::OneOrder => "one order",
             Check::EqualCounters => "equal counters",
             Check::EqualResults => "equal results",
-            Check::RunCount => "the count of a run",
+            Check::Count => "the count of what ran",
+            Check::ClosedRan => "all that is closed has run",
             Check::Refusals => "refusals",
             Check::Progress => "progress",
         })
@@ -61,6 +65,31 @@ fn agreement(servers: &[Server]) -> Option<Fault> {
         let what = format!("servers {first} and {other} hold T{t} as committed with different sets");
         Some(Fault { check: Check::Agreement, what })
     })
+}
+
+/// The numbers in the words of a number's committed set.
+fn named(held: &Ledger, t: u32) -> u64 {
+    held.committed[t as usize].map_or(0, |set| set.all())
+}
+
+/// The numbers before T: those in a word of its committed set, and those before such a number by its committed set.
+pub fn before(held: &Ledger, t: u32) -> u64 {
+    let (mut found, mut next) = (0, named(held, t));
+    while next & !found != 0 {
+        found |= next;
+        next = numbers_in(next).fold(0, |word, u| word | named(held, u));
+    }
+    found
+}
+
+/// No number is closed, which is to say that it and everything before it is committed here, and has not run.
+pub fn all_closed_ran(server: u32, held: &Ledger) -> Option<Fault> {
+    let committed = |t: u32| held.committed[t as usize].is_some();
+    let closed = |t: &u32| committed(*t) && numbers_in(before(held, *t)).all(committed);
+    let ran = held.log.entries().iter().fold(0, |word, t| word | only(*t));
+    let t = numbers_in(!ran).find(closed)?;
+    let what = format!("T{t} is closed at server {server} and has not run");
+    Some(Fault { check: Check::ClosedRan, what })
 }
 
 fn conflict(transactions: &BTreeMap<u32, Pieces>, t: u32, u: u32) -> bool {

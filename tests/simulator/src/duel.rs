@@ -125,7 +125,6 @@ impl<E: Engine> Duel<'_, '_, E> {
         for server in servers {
             if self.chance.percent(self.heard) {
                 self.cluster.take(*server, message);
-                self.cluster.run(*server, false);
             }
         }
         self.cluster.finish(slot);

@@ -7,7 +7,7 @@
 //! | `duel` | a history of exchanges that break off halfway, one after the other, over a few numbers in dispute |
 //! | `day` | a history by the clock: delays, losses, trunks cut inside an exchange, stations down for hours |
 //! | `calm` | what follows each: all trunks up, every number driven to its end |
-//! | `checks` | agreement, one order, equal counters and results |
+//! | `checks` | agreement, one order, equal counters and results, the count of what ran, and that all that is closed has run |
 //! | `history` | one seed, one history |
 //! | `news` | what one who watches a history wants to know; the program `demo` shows it |
 

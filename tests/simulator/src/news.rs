@@ -21,9 +21,10 @@ pub enum News {
         coordinator: u32,
         t: u32,
     },
-    /// A server ran so many numbers, the last of its log.
-    Ran {
+    /// A server took a Commit or a Done of a number and ran so many, the last of its log; or none, and the number waits.
+    Committed {
         server: u32,
+        t: u32,
         many: u32,
         log: Vec<u32>,
     },
@@ -64,7 +65,9 @@ impl fmt::Display for News {
             News::Vanished { coordinator, t } => {
                 write!(out, "the drive of coordinator {coordinator} for T{t} vanishes")
             }
-            News::Ran { server, many, log } => write!(out, "server {server} runs {many}: log {}", text::numbers(log)),
+            News::Committed { server, t, many, log } => {
+                write!(out, "server {server} has T{t} committed, {many} ran: log {}", text::numbers(log))
+            }
             News::Learned { server, t } => write!(out, "server {server} is told of T{t}"),
             News::Cut { trunks, .. } => write!(out, "trunks are cut: {}", trunk_list(trunks)),
             News::Mended(trunks) => write!(out, "trunks are mended: {}", trunk_list(trunks)),

@@ -1,6 +1,9 @@
 //! How often each path of the protocol was taken, so that a quiet simulator is seen to be one that tried everything.
 
+use crate::checks;
 use engine::ran::{pieces_run, Done};
+use engine::Ledger;
+use model::cluster::has;
 use model::drive::{ACCEPT, COMMIT, PREPARE, PRE_ACCEPT};
 use model::pieces::PUT;
 use model::{Drive, Message, Server};
@@ -42,8 +45,12 @@ tally! {
     recovered: "recoveries begun",
     again: "drives that went on at their next ballot",
     vanished: "drives that vanished",
-    groups: "runs of two or more numbers together",
+    ran_none: "Commits and Dones after which nothing ran",
+    ran_one: "Commits and Dones after which one number ran",
+    ran_more: "Commits and Dones after which more numbers ran",
+    groups: "groups of two or more numbers that ran together",
     ran: "numbers run",
+    alone: "runs alone, which found nothing to run",
     filled: "adds that left a counter full",
     met_full: "adds and reads that found a counter full",
     cleared: "puts that cleared a full counter",
@@ -51,8 +58,20 @@ tally! {
 }
 
 impl Tally {
-    /// Notes what a run did to the full marks of a server.
+    /// Notes how many numbers ran at a Commit or a Done.
+    pub fn note_commit(&mut self, many: u32) {
+        *[&mut self.ran_none, &mut self.ran_one, &mut self.ran_more][many.min(2) as usize] += 1;
+        self.ran += u64::from(many);
+    }
+
+    /// Notes the groups that ran at a server, and what they did to its full marks.
     pub fn note_run(&mut self, before: &Server, after: &Server) {
+        let ran = &after.log.entries()[before.log.entries().len()..];
+        let held = Ledger::of(after);
+        let ahead = |t: u32, u: u32| has(checks::before(&held, u), t);
+        let together: Vec<bool> = ran.windows(2).map(|two| ahead(two[0], two[1]) && ahead(two[1], two[0])).collect();
+        let begins = |place: &usize| together[*place] && (*place == 0 || !together[place - 1]);
+        self.groups += (0..together.len()).filter(begins).count() as u64;
         for Done { piece, from, to } in pieces_run(before, after) {
             self.filled += u64::from(to.full && !from.full);
             self.met_full += u64::from(from.full && piece.kind != PUT);

@@ -2,6 +2,7 @@
 
 use crate::at_counter::run_again;
 use crate::Slip;
+use engine::ran::take_back;
 use model::cluster::{numbers_in, only};
 use model::run::{execute, Waits};
 use model::server::step as true_step;
@@ -63,7 +64,43 @@ pub fn step(slip: Slip, server: &mut Server, message: &Message) -> Result<Messag
             })
         }
         (Slip::StoresNothing, _) => true_step(&mut server.clone(), message),
+        (_, Message::Commit { .. } | Message::Done { .. }) => commit(slip, server, message),
         _ => true_step(server, message),
+    }
+}
+
+/// A Commit or a Done: held as the true step holds it, and then the runs with a slip.
+fn commit(slip: Slip, server: &mut Server, message: &Message) -> Result<Message, Refusal> {
+    let before = server.clone();
+    if let Err(refusal) = true_step(server, message) {
+        if slip == Slip::RefusedCommitRuns && refusal == Refusal::OtherSet {
+            run_all(slip, server)?;
+        }
+        return Err(refusal);
+    }
+    take_back(server, &before);
+    let t = message.t();
+    let ran = match (slip, message) {
+        (Slip::DoneDoesNotRun, Message::Done { .. }) => 0,
+        (Slip::RepeatDoesNotRun, _) if before.record(t).committed.is_some() => 0,
+        (Slip::CommitRunsOneGroup, _) => run(slip, server)?,
+        (Slip::LastRunCounted, _) => run_to_the_last(slip, server)?,
+        _ => run_all(slip, server)?,
+    };
+    Ok(match slip {
+        Slip::CountBeforeServer => Message::CommitOk { t, server: ran, ran: server.id },
+        _ => Message::CommitOk { t, server: server.id, ran },
+    })
+}
+
+/// Runs until 0, and answers how many the last run that ran anything had.
+fn run_to_the_last(slip: Slip, server: &mut Server) -> Result<u32, Refusal> {
+    let mut last = 0;
+    loop {
+        match run(slip, server)? {
+            0 => return Ok(last),
+            many => last = many,
+        }
     }
 }
 

@@ -5,7 +5,7 @@ mod at_drive;
 mod at_server;
 mod slip;
 
-use engine::{image, layout, Due, Engine, Lent, Plain, LONGEST};
+use engine::{image, layout, Due, Engine, Ledger, Lent, Plain, LONGEST};
 use model::codec::{decode, encode};
 use model::{Drive, Pieces, Refusal, Server, Set};
 
@@ -76,6 +76,10 @@ impl Engine for Slipped {
 
     fn see_server(&self, server: &Server) -> Server {
         server.clone()
+    }
+
+    fn see_ledger(&self, server: &Server) -> Ledger {
+        Ledger::of(server)
     }
 
     fn see_drive(&self, drive: &Drive) -> Drive {

@@ -31,6 +31,14 @@ pub enum Slip {
     InventedCount,
     /// An impostor: a run until 0 that executes the first group and only logs the others.
     FirstGroupOnly,
+    /// A Commit answers the count of its last run in place of the sum.
+    LastRunCounted,
+    /// A Commit runs one group, and leaves the others that are ready.
+    CommitRunsOneGroup,
+    /// A Done is committed and runs nothing.
+    DoneDoesNotRun,
+    /// The count of a CommitOK stands before the server.
+    CountBeforeServer,
     /// Servers with an even number take an add that fits although the counter is full.
     FullAddTakenAtEvenServers,
     /// Servers with an even number leave the full mark at a put.
@@ -47,10 +55,14 @@ pub enum Slip {
     AgainForgetsPromises,
     /// A promise above the ballot is answered Behind although the number is committed.
     BehindBeforeDone,
+    /// A Commit with another set than the committed one is refused, and yet what is ready runs.
+    RefusedCommitRuns,
+    /// A repeated Commit runs nothing, whatever is ready.
+    RepeatDoesNotRun,
 }
 
 impl Slip {
-    pub const ALL: [Slip; 22] = [
+    pub const ALL: [Slip; 28] = [
         Slip::PreAcceptForgetsAccepted,
         Slip::CommonestAccepted,
         Slip::FastOnTwoOfThree,
@@ -65,6 +77,10 @@ impl Slip {
         Slip::StoresNothing,
         Slip::InventedCount,
         Slip::FirstGroupOnly,
+        Slip::LastRunCounted,
+        Slip::CommitRunsOneGroup,
+        Slip::DoneDoesNotRun,
+        Slip::CountBeforeServer,
         Slip::FullAddTakenAtEvenServers,
         Slip::PutLeavesFullAtEvenServers,
         Slip::FullReadUnmarkedAtEvenServers,
@@ -73,13 +89,20 @@ impl Slip {
         Slip::EqualWordsIgnored,
         Slip::AgainForgetsPromises,
         Slip::BehindBeforeDone,
+        Slip::RefusedCommitRuns,
+        Slip::RepeatDoesNotRun,
     ];
 
-    /// Whether a history can break a promise by it. The others are told from the model by their steps alone.
+    /// Whether a history can break a promise by it. The others are told from the model by their steps alone: no lawful history has a refusal 6, nor a number that is ready before a Commit.
     pub fn breaks_promises(self) -> bool {
         !matches!(
             self,
-            Slip::FastAtRecovery | Slip::EqualWordsIgnored | Slip::AgainForgetsPromises | Slip::BehindBeforeDone
+            Slip::FastAtRecovery
+                | Slip::EqualWordsIgnored
+                | Slip::AgainForgetsPromises
+                | Slip::BehindBeforeDone
+                | Slip::RefusedCommitRuns
+                | Slip::RepeatDoesNotRun
         )
     }
 
@@ -99,6 +122,10 @@ impl Slip {
             Slip::StoresNothing => "a server answers and stores nothing",
             Slip::InventedCount => "a run reports an invented number",
             Slip::FirstGroupOnly => "a run until 0 executes the first group and only logs the rest",
+            Slip::LastRunCounted => "a Commit answers the count of its last run in place of the sum",
+            Slip::CommitRunsOneGroup => "a Commit runs one group only",
+            Slip::DoneDoesNotRun => "a Done is committed and does not run",
+            Slip::CountBeforeServer => "the count of a CommitOK stands before the server",
             Slip::FullAddTakenAtEvenServers => "an add that fits is taken at even servers although the counter is full",
             Slip::PutLeavesFullAtEvenServers => "a put leaves the full mark at even servers",
             Slip::FullReadUnmarkedAtEvenServers => "the read of a full counter is not kept at even servers",
@@ -107,6 +134,8 @@ impl Slip {
             Slip::EqualWordsIgnored => "recovery asks anew although it has equal words",
             Slip::AgainForgetsPromises => "Again forgets the promises that it saw",
             Slip::BehindBeforeDone => "Behind is answered before Done",
+            Slip::RefusedCommitRuns => "a Commit that is refused by 6 runs what is ready",
+            Slip::RepeatDoesNotRun => "a repeated Commit does not run what is ready",
         }
     }
 }

@@ -23,7 +23,7 @@ pub fn fields(message: &Message) -> String {
             out.extend([server.to_string(), ballot.to_string(), word.to_string()]);
         }
         Message::AcceptOk { server, ballot, .. } => out.extend([server.to_string(), ballot.to_string()]),
-        Message::CommitOk { server, .. } | Message::NotYet { server, .. } => out.push(server.to_string()),
+        Message::CommitOk { server, ran, .. } => out.extend([server.to_string(), ran.to_string()]),
         Message::PrepareOk { server, ballot, arrival, accepted, .. } => {
             out.extend([server.to_string(), ballot.to_string()]);
             push_optional(&mut out, arrival.map(|word| vec![word.to_string()]));
@@ -32,6 +32,7 @@ pub fn fields(message: &Message) -> String {
         Message::Behind { server, asked, promise, .. } => {
             out.extend([server.to_string(), asked.to_string(), promise.to_string()]);
         }
+        Message::NotYet { server, .. } => out.push(server.to_string()),
         Message::Results { server, ref values, .. } => {
             out.push(server.to_string());
             push_values(&mut out, values);

@@ -16,7 +16,7 @@ pub fn message(chance: &mut Chance, code: u32) -> Message {
         5 => Message::Fetch { t },
         16 => Message::PreAcceptOk { t, server, ballot, word: word(chance) },
         17 => Message::AcceptOk { t, server, ballot },
-        18 => Message::CommitOk { t, server },
+        18 => Message::CommitOk { t, server, ran: number(chance) },
         19 => Message::PrepareOk { t, server, ballot, arrival: arrival(chance), accepted: accepted(chance) },
         20 => Message::Done { t, pieces: pieces(chance), set: set(chance) },
         21 => Message::Behind { t, server, asked: ballot, promise: number(chance) },

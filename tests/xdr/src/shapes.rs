@@ -26,10 +26,10 @@ fn shape(code: u32) -> Option<&'static [Part]> {
         2 | 20 => &[Four, PIECES, Eight, Eight, Eight, Eight],
         4 | 5 => &[Four],
         16 => &[Four, Four, Four, Eight],
-        17 => &[Four, Four, Four],
-        18 | 22 => &[Four, Four],
+        17 | 18 => &[Four, Four, Four],
         19 => &[Four, Four, Four, Optional(&[Eight]), Optional(&[Four, Eight, Eight, Eight, Eight])],
         21 => &[Four, Four, Four, Four],
+        22 => &[Four, Four],
         23 => &[Four, Four, Array(&[Four, Truth])],
         _ => return None,
     })

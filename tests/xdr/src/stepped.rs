@@ -3,7 +3,7 @@
 
 use chance::Chance;
 use engine::{ask, due, image, Lent};
-use model::cluster::{origin, shard_of};
+use model::cluster::{only, origin, shard_of, NUMBERS};
 use model::server::Record;
 use model::{ballots, codec, Drive, Message, Piece, Pieces, Server, Set, Value, Values, Vote};
 
@@ -26,7 +26,7 @@ pub fn message(chance: &mut Chance, code: u32) -> Message {
         3 => Message::Prepare { t, ballot: ballot.max(8), pieces },
         16 => Message::PreAcceptOk { t, server, ballot, word },
         17 => Message::AcceptOk { t, server, ballot },
-        18 => Message::CommitOk { t, server },
+        18 => Message::CommitOk { t, server, ran: chance.below(65) },
         19 => {
             let arrival = chance.percent(50).then(|| word);
             let set = Set::EMPTY.with(shard_of(server), word);
@@ -92,7 +92,10 @@ fn answered<E: Lent>(engine: &E, answer: &Message) -> Vec<u8> {
             (Record { arrival: Some(word), ..held }, Message::PreAccept { t, ballot, pieces: one })
         }
         Message::AcceptOk { ballot, .. } => (held, Message::Accept { t, ballot, pieces: one, set: Set::EMPTY }),
-        Message::CommitOk { .. } => (held, Message::Commit { t, pieces: one, set: Set::EMPTY }),
+        Message::CommitOk { ran, .. } => {
+            let waits_for = if ran == 0 { only((t + 1) % NUMBERS) } else { 0 };
+            (held, Message::Commit { t, pieces: one, set: Set::EMPTY.with(shard_of(server), waits_for) })
+        }
         Message::PrepareOk { ballot, arrival, accepted, .. } => {
             (Record { arrival, accepted, ..held }, Message::Prepare { t, ballot, pieces: one })
         }
@@ -109,6 +112,12 @@ fn answered<E: Lent>(engine: &E, answer: &Message) -> Vec<u8> {
     lent.records[t as usize] = record;
     if record.results.is_some() {
         (lent.log.list[0], lent.log.count) = (t, 1);
+    }
+    if let Message::CommitOk { ran, .. } = *answer {
+        // The others that run with T are ready in the lent server.
+        for more in 1..ran {
+            lent.records[((t + more) % NUMBERS) as usize] = Record { committed: Some(Set::EMPTY), ..held };
+        }
     }
     let question = codec::bytes_of(&question).expect("a question encodes");
     ask(engine, &mut engine.lend_server(&image::server_image(&lent)), &question).expect("the question is answered")

@@ -100,12 +100,6 @@ static void read_results(results *m)
     m->list.list_val = values;
 }
 
-static void read_told(told *m)
-{
-    m->t = (u_int)next();
-    m->server = (u_int)next();
-}
-
 static void read_message(message *m)
 {
     memset(m, 0, sizeof *m);
@@ -138,8 +132,9 @@ static void read_message(message *m)
         m->message_u.accept_ok.ballot = (u_int)next();
         break;
     case COMMIT_OK:
-    case NOT_YET:
-        read_told(&m->message_u.commit_ok);
+        m->message_u.commit_ok.t = (u_int)next();
+        m->message_u.commit_ok.server = (u_int)next();
+        m->message_u.commit_ok.many = (u_int)next();
         break;
     case PREPARE_OK:
         read_prepared(&m->message_u.prepare_ok);
@@ -149,6 +144,10 @@ static void read_message(message *m)
         m->message_u.behind.server = (u_int)next();
         m->message_u.behind.asked = (u_int)next();
         m->message_u.behind.promise = (u_int)next();
+        break;
+    case NOT_YET:
+        m->message_u.not_yet.t = (u_int)next();
+        m->message_u.not_yet.server = (u_int)next();
         break;
     case RESULTS:
         read_results(&m->message_u.results);
@@ -225,8 +224,7 @@ static void show_message(const message *m)
         printf(" %u %u %u", m->message_u.accept_ok.t, m->message_u.accept_ok.server, m->message_u.accept_ok.ballot);
         break;
     case COMMIT_OK:
-    case NOT_YET:
-        printf(" %u %u", m->message_u.not_yet.t, m->message_u.not_yet.server);
+        printf(" %u %u %u", m->message_u.commit_ok.t, m->message_u.commit_ok.server, m->message_u.commit_ok.many);
         break;
     case PREPARE_OK:
         show_prepared(&m->message_u.prepare_ok);
@@ -234,6 +232,9 @@ static void show_message(const message *m)
     case BEHIND:
         printf(" %u %u %u %u", m->message_u.behind.t, m->message_u.behind.server, m->message_u.behind.asked,
                m->message_u.behind.promise);
+        break;
+    case NOT_YET:
+        printf(" %u %u", m->message_u.not_yet.t, m->message_u.not_yet.server);
         break;
     case RESULTS:
         show_results(&m->message_u.results);

@@ -126,6 +126,8 @@ pub struct Message {
     pub accepted: MaybeVote,
     /// The values of a Results.
     pub values: Values,
+    /// Of a CommitOK: how many numbers ran in all as the Commit or Done was taken.
+    pub ran: u32,
 }
 
 /// What a server holds of one number.

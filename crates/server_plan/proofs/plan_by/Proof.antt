@@ -21,7 +21,7 @@ more-requires c κs = search needs
 
 returns : tie.Need-returns
 unfolding plannedBy
-returns c = rw (c .more .ensures, c .before .refusal-of .ensures, c .before .before .before .planned-log .ensures, c .before .before .before .before .allowed .ensures, c .before .before .before .before .before .closure .ensures)
+returns c = rw (c .more .ensures, c .before .refusal-of .ensures, c .before .before .planned-log .ensures, c .before .before .before .allowed .ensures, c .before .before .before .before .closure .ensures)
 
 pub plan-by-spec : {M : Type 1} → statement M
 plan-by-spec =

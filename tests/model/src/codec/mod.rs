@@ -51,12 +51,12 @@ fn length(message: &Message) -> usize {
         Message::Commit { pieces: p, .. } | Message::Done { pieces: p, .. } => pieces(p) + SET,
         Message::Inquire { .. } | Message::Fetch { .. } => 0,
         Message::PreAcceptOk { .. } => 2 * UINT + WORD,
-        Message::AcceptOk { .. } => 2 * UINT,
-        Message::CommitOk { .. } | Message::NotYet { .. } => UINT,
+        Message::AcceptOk { .. } | Message::CommitOk { .. } => 2 * UINT,
         Message::PrepareOk { arrival, accepted, .. } => {
             4 * UINT + arrival.map_or(0, |_| WORD) + accepted.map_or(0, |_| UINT + SET)
         }
         Message::Behind { .. } => 3 * UINT,
+        Message::NotYet { .. } => UINT,
         Message::Results { values, .. } => 2 * UINT + VALUE * values.entries().len(),
     };
     2 * UINT + rest

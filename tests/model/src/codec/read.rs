@@ -46,7 +46,7 @@ impl<'a> Items<'a> {
         match code {
             16 => Ok(Message::PreAcceptOk { t, server, ballot: self.uint()?, word: self.word()? }),
             17 => Ok(Message::AcceptOk { t, server, ballot: self.uint()? }),
-            18 => Ok(Message::CommitOk { t, server }),
+            18 => Ok(Message::CommitOk { t, server, ran: self.uint()? }),
             19 => Ok(Message::PrepareOk {
                 t,
                 server,

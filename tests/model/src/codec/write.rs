@@ -23,13 +23,14 @@ pub fn message(out: &mut [u8], message: &Message) {
         Message::Inquire { .. } | Message::Fetch { .. } => out,
         Message::PreAcceptOk { server, ballot, word: w, .. } => word(uint(uint(out, server), ballot), w),
         Message::AcceptOk { server, ballot, .. } => uint(uint(out, server), ballot),
-        Message::CommitOk { server, .. } | Message::NotYet { server, .. } => uint(out, server),
+        Message::CommitOk { server, ran, .. } => uint(uint(out, server), ran),
         Message::PrepareOk { server, ballot, arrival, accepted, .. } => {
             let out = uint(uint(out, server), ballot);
             let out = optional(out, arrival, word);
             optional(out, accepted, |out, vote| set(uint(out, vote.ballot), &vote.set))
         }
         Message::Behind { server, asked, promise, .. } => uint(uint(uint(out, server), asked), promise),
+        Message::NotYet { server, .. } => uint(out, server),
         Message::Results { server, values: ref v, .. } => values(uint(out, server), v),
     };
 }

@@ -7,6 +7,7 @@ use crate::cluster::only;
 use crate::message::Message;
 use crate::pieces::Pieces;
 use crate::refusal::Refusal;
+use crate::run::until_0;
 use crate::sets::Set;
 
 /// Takes a message and answers it. A refusal changes nothing.
@@ -78,12 +79,13 @@ fn prepare(server: &Server, t: u32, ballot: u32) -> Message {
     Message::PrepareOk { t, server: server.id, ballot, arrival: record.arrival, accepted: record.accepted }
 }
 
-/// Holds pieces and set as committed; a repeat with the same set changes nothing. It may come to a server that T doesn't touch.
+/// Holds pieces and set as committed, runs until 0, and answers how many ran in all. A repeat with the same set changes nothing by itself, and what is ready runs all the same. It may come to a server that T doesn't touch.
 fn commit(server: &mut Server, t: u32, pieces: &Pieces, set: &Set) -> Message {
     let record = server.record_mut(t);
     record.pieces = Some(*pieces);
     record.committed = Some(*set);
-    Message::CommitOk { t, server: server.id }
+    let ran = until_0(server);
+    Message::CommitOk { t, server: server.id, ran }
 }
 
 /// Done if committed, else NotYet.

@@ -22,7 +22,7 @@ struct Live<D> {
 pub struct Cluster<'e, E: Engine> {
     engine: &'e E,
     servers: Vec<E::Server>,
-    /// Each server as it was after its last run.
+    /// Each server as it was after the last step at which it ran something.
     ran: Vec<Server>,
     live: Vec<Option<Live<E::Drive>>>,
     /// The numbers begun so far. A number names one transaction.
@@ -97,28 +97,21 @@ impl<'e, E: Engine> Cluster<'e, E> {
             };
             format!("server {server} takes {}: {answer}", text::bytes(bytes))
         });
+        self.watch_step(server, bytes, answer.as_deref().ok());
         let answer = self.lawful(answer, &[Refusal::Untouched], "a message to a server")?;
         self.watch_committed(&answer);
         Some(answer)
     }
 
-    /// A server runs what is ready: one group, or until 0.
-    pub fn run(&mut self, server: u32, until_0: bool) -> u32 {
-        let place = server as usize;
-        let state = &mut self.servers[place];
+    /// The host of a server calls a run alone, as at start-up: one group, or until 0. It has nothing to do.
+    pub fn run(&mut self, server: u32, until_0: bool) {
+        let state = &mut self.servers[server as usize];
+        let before = state.clone();
         let ran = if until_0 { self.engine.run_all(state) } else { self.engine.run(state) };
+        let changed = *state != before;
+        self.tally.alone += 1;
         let many = self.lawful(ran, &[], "a run").unwrap_or(0);
-        if many == 0 {
-            return 0;
-        }
-        self.tally.ran += u64::from(many);
-        self.tally.groups += u64::from(!until_0 && many > 1);
-        let seen = self.engine.see_server(&self.servers[place]);
-        self.report(News::Ran { server, many, log: seen.log.entries().to_vec() });
-        let before = std::mem::replace(&mut self.ran[place], seen);
-        self.tally.note_run(&before, &self.ran[place]);
-        self.watch_runs(place, &before, many);
-        many
+        self.watch_run_alone(server, many, changed);
     }
 
     pub fn wanted(&mut self, server: u32) -> Set {

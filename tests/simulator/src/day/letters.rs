@@ -53,7 +53,7 @@ impl<E: Engine> Day<'_, '_, E> {
         }
     }
 
-    /// A server takes a message, runs what it can after a Commit, and its answer goes back.
+    /// A server takes a message, and its answer goes back. After a Commit it may want something.
     fn arrive_at_server(&mut self, server: u32, letter: Letter) {
         let message = codec::decode(&letter.bytes);
         if let Ok(Message::NotYet { .. } | Message::CommitOk { .. }) = message {
@@ -64,7 +64,6 @@ impl<E: Engine> Day<'_, '_, E> {
             self.cluster.report(News::Learned { server, t });
         }
         if let Ok(Message::Commit { .. } | Message::Done { .. }) = message {
-            self.cluster.run(server, self.now % 2 == 0);
             self.look_soon(server);
         }
         if let Some(bytes) = answer {

@@ -19,13 +19,12 @@ impl<E: Engine> Day<'_, '_, E> {
         }
     }
 
-    /// A station runs what is ready and inquires after what it wants. What stays wanted is given to a coordinator to recover.
+    /// A station inquires after what it wants. What stays wanted is given to a coordinator to recover.
     pub(super) fn look(&mut self, station: u32) {
         self.looking[station as usize] = false;
         if self.trunks.is_down(station) {
             return;
         }
-        self.cluster.run(station, true);
         let wanted = self.cluster.wanted(station);
         if wanted.all() == 0 {
             self.looks[station as usize] = 0;

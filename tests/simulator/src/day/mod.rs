@@ -249,9 +249,11 @@ impl<'c, 'e, E: Engine> Day<'c, 'e, E> {
         }
     }
 
+    /// A station is up again: a run until 0, as at every start-up, and a look at what it wants.
     fn come_up(&mut self, station: u32) {
         self.cluster.report(News::Up(station));
         self.trunks.set_down(station, false);
+        self.cluster.run(station, true);
         self.agenda.add(self.now, Event::Look(station));
         if station < COORDINATORS {
             self.tick(station);

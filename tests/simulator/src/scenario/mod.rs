@@ -8,8 +8,8 @@
 //! | `coordinator 0 hears m2 m3` | its drive takes these replies |
 //! | `coordinator 0 moves on`, `.. goes on`, `.. vanishes` | "move on"; the next ballot; the drive is gone |
 //! | `servers 0 1 2 take m1` | each takes the message, and its answer gets a name; `Inquire T8` and `Fetch T8` may stand for m1 |
-//! | `servers 0 1 run` | each runs until 0 |
-//! | `servers 0 want`, `.. hold T8`, `.. count` | the wanted set; what is held of T8; the counters that aren't 0 |
+//! | `servers 0 1 run` | each runs until 0, as at a start-up |
+//! | `servers 0 want`, `.. hold T8`, `.. count`, `.. log` | the wanted set; what is held of T8; the counters that aren't 0; the numbers run |
 //! | `cut 3`, `mend 3` | the trunk at station 3. A coordinator sits at the station of its number |
 
 mod stage;

@@ -125,6 +125,7 @@ impl<'e, E: Engine> Stage<'e, E> {
         let act: fn(&mut Self, u32, &[&str]) -> Option<String> = match words[verb] {
             "take" | "takes" => Self::take,
             "run" | "runs" => Self::run,
+            "log" | "logs" => Self::log,
             "want" | "wants" => Self::wanted,
             "hold" | "holds" => Self::held,
             "count" | "counts" => Self::counters,
@@ -158,6 +159,11 @@ impl<'e, E: Engine> Stage<'e, E> {
             }
             Err(refusal) => refused(refusal),
         })
+    }
+
+    fn log(&mut self, server: u32, _: &[&str]) -> Option<String> {
+        let log = self.engine.see_server(&self.servers[server as usize]).log;
+        Some(format!("server {server}: log {}", text::numbers(log.entries())))
     }
 
     fn wanted(&mut self, server: u32, _: &[&str]) -> Option<String> {

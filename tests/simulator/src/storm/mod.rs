@@ -210,6 +210,7 @@ impl<E: Engine> Storm<'_, '_, E> {
         servers_of(shard).start + self.chance.below(3)
     }
 
+    /// A server's host is started up anew.
     fn run(&mut self) {
         let server = self.some_server();
         let until_0 = self.chance.percent(30);

@@ -19,7 +19,7 @@ plain-requires : tie.Need-plain-requires
 plain-requires c κs = search needs
 
 returns-2 : tie.Need-returns-2
-returns-2 c = ap (λ (m : Message). record { refusal = 0; message = m }) (c .plain .ensures) ∙ as-good _ _ _ (c .before .before .fault-of .ensures) (c .before .if1 .left)
+returns-2 c = rw (c .plain .ensures) (as-good _ _ _ (c .before .before .fault-of .ensures) (c .before .if1 .left))
 
 pub short-message-spec : {M : Type 1} → statement M
 short-message-spec = tie.close (tie.spec fault-of-requires refused-requires returns plain-requires returns-2)

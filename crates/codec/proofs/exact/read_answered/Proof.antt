@@ -41,8 +41,8 @@ cost-requires-2 c κs = search needs
 add-p : tie.Need-add-p
 add-p c = search needs
 
-hyper-if-requires : tie.Need-hyper-if-requires
-hyper-if-requires c κs =
+word-if-requires-3 : tie.Need-word-if-requires-3
+word-if-requires-3 c κs =
     let x = c .before .before .before .before .before .before .before .before .pre in
     let s = c .before .before .before .before .answered-shape .ensures in
     let long = x .exact in
@@ -50,17 +50,34 @@ hyper-if-requires c κs =
     let p = rw s at (c .cost2 .ensures .0) in
     rw s (omega arith)
 
-plain-requires : tie.Need-plain-requires
-plain-requires c κs = search needs
+cost-requires-3 : tie.Need-cost-requires-3
+cost-requires-3 c κs = search needs
 
-returns : tie.Need-returns
-returns c =
+add-n : tie.Need-add-n
+add-n c = search needs
+
+hyper-if-requires : tie.Need-hyper-if-requires
+hyper-if-requires c κs =
     let x = c .before .before .before .before .before .before .before .before .before .before .pre in
     let s = c .before .before .before .before .before .before .answered-shape .ensures in
     let long = x .exact in
     let b = rw s at (c .before .before .before .before .cost .ensures .0) in
     let p = rw s at (c .before .before .cost2 .ensures .0) in
-    let d = answered-decoded _ x (c .before .before .before .before .before .before .before .before .word-at .ensures) (c .before .before .before .before .before .before .before .word-at2 .ensures) (rw s at (c .before .before .before .before .before .word-if .ensures)) (rw (s, b) at (c .before .before .before .word-if2 .ensures)) (rw (s, b, p) at (c .before .hyper-if .ensures)) in
+    let n = rw s at (c .cost3 .ensures .0) in
+    rw s (omega arith)
+
+plain-requires : tie.Need-plain-requires
+plain-requires c κs = search needs
+
+returns : tie.Need-returns
+returns c =
+    let x = c .before .before .before .before .before .before .before .before .before .before .before .before .pre in
+    let s = c .before .before .before .before .before .before .before .before .answered-shape .ensures in
+    let long = x .exact in
+    let b = rw s at (c .before .before .before .before .before .before .cost .ensures .0) in
+    let p = rw s at (c .before .before .before .before .cost2 .ensures .0) in
+    let n = rw s at (c .before .before .cost3 .ensures .0) in
+    let d = answered-decoded _ x (c .before .before .before .before .before .before .before .before .before .before .word-at .ensures) (c .before .before .before .before .before .before .before .before .before .word-at2 .ensures) (rw s at (c .before .before .before .before .before .before .before .word-if .ensures)) (rw (s, b) at (c .before .before .before .before .before .word-if2 .ensures)) (rw (s, b, p) at (c .before .before .before .word-if3 .ensures)) (rw (s, b, p, n) at (c .before .hyper-if .ensures)) in
     rw (c .plain .ensures) d
 
 pub read-answered-spec : {M : Type 1} → statement M
@@ -76,6 +93,9 @@ read-answered-spec =
     word-if-requires-2
     cost-requires-2
     add-p
+    word-if-requires-3
+    cost-requires-3
+    add-n
     hyper-if-requires
     plain-requires
     returns)

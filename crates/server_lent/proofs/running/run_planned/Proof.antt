@@ -103,9 +103,9 @@ unfolding told-2
 told-2-is s p log many = refl
 
 unfoldable left-2 : (s : Server) (p : Plan) (log : Log) (many : ℕ) → Server
-left-2 s p log many = ranListed p s (told-1 s p log many)
+left-2 s p log many = ranListed p log s (told-1 s p log many)
 
-left-2-is : (s : Server) (p : Plan) (log : Log) (many : ℕ) → ranListed p s (told-1 s p log many) ≡ left-2 s p log many
+left-2-is : (s : Server) (p : Plan) (log : Log) (many : ℕ) → ranListed p log s (told-1 s p log many) ≡ left-2 s p log many
 unfolding left-2
 left-2-is s p log many = refl
 
@@ -164,10 +164,10 @@ module _ {M : Type 1} (𝓤 : URA M) (H : Heap 𝓤) (A : Atoms 𝓤) (W : Given
   goes-1 is0 = qed W ([]) ∵ nothing ! $ owned ! usize (Is usize) (uint-makes 𝓤 H A W w64) many _ is0 $ fjoin ! $ nothing ! $ join ! $ frame ! $ done !
 
   abbrev to-2 : (α : ℕ) (δ : GName) → C-run-listed 𝓤 H A at-mem routines .Ghost
-  to-2 α δ = ((((α ∷ []), tt), (fullShare, tt), tt, ((record { ptr = (b, o); name = δ; now = s }), (p, ((told-1 s p log many), tt))), ((vptr b o) ∷ [], ((LL.val RPlan.the-type LPlan.the-laws p) ∷ [], ((vint w64 (told-1 s p log many)) ∷ [], tt)))), tt)
+  to-2 α δ = ((((α ∷ []), tt), (fullShare, tt), tt, ((record { ptr = (b, o); name = δ; now = s }), (p, (log, ((told-1 s p log many), tt)))), ((vptr b o) ∷ [], ((LL.val RPlan.the-type LPlan.the-laws p) ∷ [], ((LL.val RLog.the-type LLog.the-laws log) ∷ [], ((vint w64 (told-1 s p log many)) ∷ [], tt))))), tt)
 
-  goes-2 : (α : ℕ) (δ : GName) → Is RPlan.the-row p ((LL.val RPlan.the-type LPlan.the-laws p) ∷ []) → Is usize (told-1 s p log many) ((vint w64 (told-1 s p log many)) ∷ []) → (told-1 s p log many) ≤ 64 → ent 𝓤 (⋆ 𝓤 H A (‵ (flft (α ∷ []) fullShare) ∷ ‵ (MutRef (named 0) (α ∷ []) RServer.the-row .own (record { ptr = (b, o); name = δ; now = s }) (vptr b o ∷ [])) ∷ [])) (C-run-listed 𝓤 H A at-mem routines .pre (to-2 α δ))
-  goes-2 α δ is0 is1 req = qed W (‵ (flft (α ∷ []) fullShare) ∷ ‵ (MutRef (named 0) (α ∷ []) RServer.the-row .own (record { ptr = (b, o); name = δ; now = s }) (vptr b o ∷ [])) ∷ []) ∵ says ! req $ nothing ! $ owned ! usize (Is usize) (uint-makes 𝓤 H A W w64) (told-1 s p log many) _ is1 $ fjoin ! $ owned ! RPlan.the-row (Is RPlan.the-row) (LL.makes RPlan.the-type LPlan.the-plain 𝓤 H A) p _ is0 $ fjoin ! $ move ! (2 ∷ 0 ∷ []) $ fjoin ! $ nothing ! $ move ! (2 ∷ 0 ∷ []) $ join ! $ frame ! $ done !
+  goes-2 : (α : ℕ) (δ : GName) → Is RPlan.the-row p ((LL.val RPlan.the-type LPlan.the-laws p) ∷ []) → Is RLog.the-row log ((LL.val RLog.the-type LLog.the-laws log) ∷ []) → Is usize (told-1 s p log many) ((vint w64 (told-1 s p log many)) ∷ []) → (told-1 s p log many) ≤ 64 → ent 𝓤 (⋆ 𝓤 H A (‵ (flft (α ∷ []) fullShare) ∷ ‵ (MutRef (named 0) (α ∷ []) RServer.the-row .own (record { ptr = (b, o); name = δ; now = s }) (vptr b o ∷ [])) ∷ [])) (C-run-listed 𝓤 H A at-mem routines .pre (to-2 α δ))
+  goes-2 α δ is0 is1 is2 req = qed W (‵ (flft (α ∷ []) fullShare) ∷ ‵ (MutRef (named 0) (α ∷ []) RServer.the-row .own (record { ptr = (b, o); name = δ; now = s }) (vptr b o ∷ [])) ∷ []) ∵ says ! req $ nothing ! $ owned ! usize (Is usize) (uint-makes 𝓤 H A W w64) (told-1 s p log many) _ is2 $ fjoin ! $ owned ! RLog.the-row (Is RLog.the-row) (LL.makes RLog.the-type LLog.the-plain 𝓤 H A) log _ is1 $ fjoin ! $ owned ! RPlan.the-row (Is RPlan.the-row) (LL.makes RPlan.the-type LPlan.the-plain 𝓤 H A) p _ is0 $ fjoin ! $ move ! (2 ∷ 0 ∷ []) $ fjoin ! $ nothing ! $ move ! (2 ∷ 0 ∷ []) $ join ! $ frame ! $ done !
 
   module _ (𝓣 : Tables 𝓤 H) (known-few : Triple 𝓤 (𝓣 .C #server-lent·running·few) (C-few 𝓤 H A at-mem routines)) (known-run-listed : Triple 𝓤 (𝓣 .C #server-lent·running·run-listed) (C-run-listed 𝓤 H A at-mem routines)) (is-p : Is RPlan.the-row p ((LL.val RPlan.the-type LPlan.the-laws p) ∷ [])) (is-log : Is RLog.the-row log ((LL.val RLog.the-type LLog.the-laws log) ∷ [])) (is-many : Is usize many ((vint w64 many) ∷ [])) (was : Sound s) (l0 l1 l2 l3 l4 l5 l6 l7 : ℕ) where
     abbrev En : Env 𝓤 H
@@ -196,13 +196,14 @@ module _ {M : Type 1} (𝓤 : URA M) (H : Heap 𝓤) (A : Atoms 𝓤) (W : Given
         -- server_lent::running::run_listed
         assigns ! (addr ! (from ! (hop ! (look ! 16 refl) (stop !)))) (from ! (stop !)) (init ! 4 refl (tt, tt)) $
         lends-cell-mut ! tt RServer.the-row (Is RServer.the-row) (shows 𝓤 H A RServer.the-row) (LL.makes RServer.the-type LServer.the-plain 𝓤 H A) (LL.vals RServer.the-type LServer.the-laws) (LL.tells RServer.the-type LServer.the-laws) b o s was (λ α δ.
-        use2 W (raw (C-run-listed 𝓤 H A at-mem routines .pre (to-2 α δ))) (goes-2 α δ is-p is-1 (run-listed-2 s p log many was)) $
-        calls-at ! (fmOf 𝓤 H (W .laws) 𝓣) (C-run-listed 𝓤 H A at-mem routines) known-run-listed (to-2 α δ) (and-then ! (load ! (from ! (stop !)) (look ! 5 refl)) (and-then ! (load ! (from ! (stop !)) (look ! 15 refl)) (and-then ! (load ! (from ! (stop !)) (look ! 9 refl)) (no-more !)))) (λ v.
-        use1 W (later (some (λ (r : ℕ). ((‵ (flft (α ∷ []) fullShare) ⊛ ‵ ftrue) ⊛ ‵ (usize .own r (v ∷ []))) ⊛ raw (ensured 𝓤 H A fn-run-listed.ended (fn-run-listed.clauses 𝓤 H A at-mem routines) ((α ∷ []), tt) ((record { ptr = (b, o); name = δ; now = s }), (p, ((told-1 s p log many), tt))) tt r)))) (id⊢ 𝓤 _) $ await ! tt $ pick ! (λ x.
+        use2 W (raw (C-run-listed 𝓤 H A at-mem routines .pre (to-2 α δ))) (goes-2 α δ is-p is-log is-1 (run-listed-2 s p log many was)) $
+        calls-at ! (fmOf 𝓤 H (W .laws) 𝓣) (C-run-listed 𝓤 H A at-mem routines) known-run-listed (to-2 α δ) (and-then ! (load ! (from ! (stop !)) (look ! 5 refl)) (and-then ! (load ! (from ! (stop !)) (look ! 15 refl)) (and-then ! (load ! (from ! (stop !)) (look ! 13 refl)) (and-then ! (load ! (from ! (stop !)) (look ! 9 refl)) (no-more !))))) (λ v.
+        use1 W (later (some (λ (r : ℕ). ((‵ (flft (α ∷ []) fullShare) ⊛ ‵ ftrue) ⊛ ‵ (usize .own r (v ∷ []))) ⊛ raw (ensured 𝓤 H A fn-run-listed.ended (fn-run-listed.clauses 𝓤 H A at-mem routines) ((α ∷ []), tt) ((record { ptr = (b, o); name = δ; now = s }), (p, (log, ((told-1 s p log many), tt)))) tt r)))) (id⊢ 𝓤 _) $ await ! tt $ pick ! (λ x.
         split ! $ move ! (1 ∷ []) $
-        use1 W (some (λ (zs : Server × (Unit {0} × (Unit {0} × (Unit {0})))). ‵ (lasts fn-run-listed.ended ((α ∷ []), tt) ((record { ptr = (b, o); name = δ; now = s }), (p, ((told-1 s p log many), tt))) zs) ⊛ raw (fact 𝓤 ((x ≡ (told-1 s p log many)) × (zs .0 ≡ ranListed p s (told-1 s p log many)))))) (id⊢ 𝓤 _) $ pick ! (λ zs.
-        split ! $ move ! (1 ∷ []) $ heard ! ((x ≡ (told-1 s p log many)) × (zs .0 ≡ ranListed p s (told-1 s p log many))) (λ e. fsplit ! $ move ! (1 ∷ []) $ fsplit ! $ drop ! $ fsplit ! $ drop ! $ drop ! $ move ! (1 ∷ []) $ split ! $
-        move ! (1 ∷ []) $ facts ! usize (Is usize) (shows 𝓤 H A usize) x (v ∷ []) (λ is. split ! $ move ! (1 ∷ []) $ drop ! $ land ! (from ! (stop !)) (init ! 8 refl (uint-lawful 𝓤 H A W w64 .typed x _ is .0)) $
+        use1 W (some (λ (zs : Server × (Unit {0} × (Unit {0} × (Unit {0} × (Unit {0}))))). ‵ (lasts fn-run-listed.ended ((α ∷ []), tt) ((record { ptr = (b, o); name = δ; now = s }), (p, (log, ((told-1 s p log many), tt)))) zs) ⊛ raw (fact 𝓤 ((x ≡ (told-1 s p log many)) × (zs .0 ≡ ranListed p log s (told-1 s p log many)))))) (id⊢ 𝓤 _) $ pick ! (λ zs.
+        split ! $ move ! (1 ∷ []) $ heard ! ((x ≡ (told-1 s p log many)) × (zs .0 ≡ ranListed p log s (told-1 s p log many))) (λ e. fsplit ! $ move ! (1 ∷ []) $ fsplit ! $ drop ! $ fsplit ! $ drop ! $ fsplit ! $ drop ! $ drop ! $
+        move ! (1 ∷ []) $ split ! $ move ! (1 ∷ []) $ facts ! usize (Is usize) (shows 𝓤 H A usize) x (v ∷ []) (λ is. split ! $ move ! (1 ∷ []) $ drop ! $
+        land ! (from ! (stop !)) (init ! 8 refl (uint-lawful 𝓤 H A W w64 .typed x _ is .0)) $
         rewrite ! 8 (λ (w : Val). ‵ (fat fullShare (tyInt w64) l6 zero w)) (spelled-as usize (uint-vals w64) (uint-tells w64) x (told-2 s p log many) v is ((e .0) ∙ told-2-is s p log many)) refl $ move ! (0 ∷ 2 ∷ 1 ∷ []) $
         back-cell-mut ! tt RServer.the-row (Is RServer.the-row) (shows 𝓤 H A RServer.the-row) (LL.makes RServer.the-type LServer.the-plain 𝓤 H A) (LL.vals RServer.the-type LServer.the-laws) (LL.tells RServer.the-type LServer.the-laws) b o (zs .0) (λ was-left.
         rewrite ! 0 (λ (h : Server). ‵ (cellAt fullShare (RServer.the-row .mir) ((LL.vals RServer.the-type LServer.the-laws) h) b o)) ((e .1) ∙ left-2-is s p log many) refl $

@@ -52,7 +52,7 @@ pub fn table(servers: &[Server]) -> Vec<String> {
 mod tests {
     use super::{outcome, table};
     use model::pieces::ADD;
-    use model::{run, server, Message, Piece, Pieces, Server, Set};
+    use model::{server, Message, Piece, Pieces, Server, Set};
     use std::collections::BTreeMap;
 
     /// Twelve servers after one exchange between shards 0 and 1.
@@ -62,7 +62,6 @@ mod tests {
         let mut servers: Vec<Server> = (0..12).map(|id| Server::fresh(id).unwrap()).collect();
         for s in &mut servers[..6] {
             server::step(s, &Message::Commit { t: 8, pieces, set: Set::EMPTY }).unwrap();
-            run::run_all(s).unwrap();
         }
         (servers, BTreeMap::from([(8, pieces)]))
     }

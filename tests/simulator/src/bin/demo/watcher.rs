@@ -24,6 +24,8 @@ pub struct Watcher {
     numbers: BTreeMap<u32, Number>,
     /// Who has been told of what by another.
     learned: BTreeSet<(u32, u32)>,
+    /// How many ran at the Commit of a number, as a station has said.
+    said: BTreeSet<(u32, usize)>,
     /// A number that was cut half-way at its Commit, and when its stations are compared.
     halved: Option<(Time, u32)>,
     down: BTreeSet<u32>,
@@ -38,6 +40,7 @@ impl Watcher {
             now: 0,
             numbers: BTreeMap::new(),
             learned: BTreeSet::new(),
+            said: BTreeSet::new(),
             halved: None,
             down: BTreeSet::new(),
             lost: 0,
@@ -71,7 +74,7 @@ impl Watcher {
     /// What the calm did. Everyone recovers what it began then, which is not worth a line.
     pub fn close<E: Engine>(&mut self, cluster: &mut Cluster<E>) {
         for news in std::mem::take(&mut cluster.news) {
-            if let News::Ran { .. } = news {
+            if let News::Committed { .. } = news {
                 self.hear(news, cluster);
             }
         }
@@ -93,10 +96,10 @@ impl Watcher {
             News::Vanished { coordinator, t } => {
                 self.tell(&format!("coordinator {coordinator} has lost its drive for T{t}"));
             }
-            News::Ran { server, many, log } => {
-                for t in &log[log.len() - many as usize..] {
-                    self.ran(server, *t, cluster);
-                }
+            News::Committed { server, t, many, log } => {
+                let ran = &log[log.len() - many as usize..];
+                self.committed(server, t, ran);
+                ran.iter().for_each(|t| self.ran(server, *t, cluster));
             }
             News::Learned { server, t } => {
                 let missing = self.numbers.get(&t).map_or(false, |number| number.missing.contains(&server));
@@ -132,6 +135,13 @@ impl Watcher {
 
     fn is_done(&self, t: u32) -> bool {
         self.numbers.get(&t).map_or(false, |number| number.missing.is_empty())
+    }
+
+    /// A station took a Commit. If it ran nothing, or more than one number, that is worth a line, the first time that one says so of the number.
+    fn committed(&mut self, server: u32, t: u32, ran: &[u32]) {
+        if ran.len() != 1 && self.said.insert((t, ran.len())) {
+            self.tell(&words::committed(server, t, ran));
+        }
     }
 
     /// A number has run at a server. If that is the last of its servers, it is done.

@@ -68,9 +68,19 @@ pub fn cut(trunks: &[Trunk], message: &Message, inside: &Inside) -> String {
     )
 }
 
+/// What a station said to a Commit: how many ran, and which if there are several.
+pub fn committed(server: u32, t: u32, ran: &[u32]) -> String {
+    let numbers: String = ran.iter().map(|t| format!(" T{t}")).collect();
+    let which = if ran.is_empty() { ", it waits" } else { ":" };
+    format!("station {server}: T{t} committed, {} ran{which}{numbers}", ran.len())
+}
+
 pub fn tally(tally: &Tally) -> String {
-    format!(
-        "{} messages to stations and {} replies to drives; {} lost, {} repeated.\nTrunks cut inside an exchange: {}. Stations down for hours: {}. Recoveries: {}.",
-        tally.taken, tally.heard, tally.lost, tally.repeated, tally.cuts, tally.downs, tally.recovered
-    )
+    let Tally { taken, heard, lost, repeated, cuts, downs, recovered, ran_none, ran_one, ran_more, .. } = tally;
+    [
+        format!("{taken} messages to stations and {heard} replies to drives; {lost} lost, {repeated} repeated."),
+        format!("Commits taken: {ran_none} ran nothing, {ran_one} one number, {ran_more} more."),
+        format!("Trunks cut inside an exchange: {cuts}. Stations down for hours: {downs}. Recoveries: {recovered}."),
+    ]
+    .join("\n")
 }
