@@ -19,12 +19,12 @@ def names(file):
     return {old: new for old, new in rows}
 
 
-def turned(text, table, comment):
-    """The text with each whole word of the table turned; a word with a dash stays in a comment."""
+def turned(text, table, comment, function):
+    """The text with each whole word of the table turned; a word with a dash stays in a comment, and after a dot in a function's folder, where it is a step's name."""
     out = []
     for line in text.split('\n'):
         code, mark, rest = line.partition(comment)
-        code = WORD.sub(lambda m: table.get(m.group(), m.group()), code)
+        code = WORD.sub(lambda m: m.group() if function and '-' in m.group() and line[m.start() - 1 : m.start()] == '.' and not line.startswith('use ') else table.get(m.group(), m.group()), code)
         rest = WORD.sub(lambda m: m.group() if '-' in m.group() else table.get(m.group(), m.group()), rest)
         out.append(code + mark + rest)
     return '\n'.join(out)
@@ -41,7 +41,7 @@ for path in sorted(TOP.glob('crates/*/**/*')):
     if parts[2] == 'proofs' and len(parts) == 4:
         # a name after a dot is a field, or a function's folder
         new = re.sub(rf"(?<!{PART})(?<!\.)(?:{'|'.join(map(re.escape, first))})(?!{PART})(?!\.)", lambda m: first[m.group()], new)
-    new = turned(new, table, comment)
+    new = turned(new, table, comment, parts[2] == 'proofs' and len(parts) > 4)
     if new != old:
         path.write_text(new, encoding='utf-8')
         changed += 1

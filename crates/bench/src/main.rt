@@ -1,5 +1,6 @@
 // The cases A to L of document 01: a line each, its letter and `ok`, or `bad` where the library answers anything else.
 // Every verdict is computed from calls of the library.
+#![tactic(auto)]
 mod feed; // feed.rt: pieces and sets to feed
 pub mod host; // host.rt: what hosts call, on a state that stands in a local
 mod exchange; // exchange.rt: messages told as bytes, and what an answer is held against

@@ -1,4 +1,5 @@
 // Classic pcap captures, and the lines that are printed of their records.
+#![tactic(auto)]
 
 mod words; // words.rt: numbers in the file's byte order
 pub mod pcap; // pcap.rt: a file's header, and a record's head

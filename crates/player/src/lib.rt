@@ -1,4 +1,5 @@
 // A captured day, played to twelve fresh servers from portions of the file as they come.
+#![tactic(auto)]
 use capture::Told;
 use server::Server;
 

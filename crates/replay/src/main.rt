@@ -1,5 +1,6 @@
 // Plays a captured day again: replay [CAPTURE], standard input where no name is given. A line for each record goes to standard output.
 // The exit status goes to descriptor 3, where the script `replay` takes it: a program of this kit can't give one itself.
+#![tactic(auto)]
 use player::Play;
 use player::chewing::{chew, finish, first};
 

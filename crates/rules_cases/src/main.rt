@@ -1,4 +1,5 @@
 // Case G and examples of the piece rules, of conflicts and of rule 3, each computed by the library: a line each.
+#![tactic(auto)]
 use rules::{Piece, Pieces};
 
 // `next c n:`, then the refusal and the ballot.

@@ -1,4 +1,5 @@
 // The parts of fresh, run and wanted that read no more than one record: what is there at first, what a committed set names, and when runs are allowed.
+#![tactic(auto)]
 
 pub mod first; // first.rt: what is there at first
 pub mod gather; // gather.rt: what a committed set names

@@ -10,7 +10,7 @@ bad-ballot-requires : tie.Need-bad-ballot-requires
 bad-ballot-requires c κs = search rules
 
 returns : tie.Need-returns
-returns c = rw (c.bad-ballot.ensures, c.before.may_use_lem.ensures)
+returns c = rw (c.bad-ballot.ensures, c.before.may-use.ensures)
 
 pub ballots_formed_spec : {M : Type 1} → statement M
 ballots_formed_spec = tie.close (tie.spec may-use-requires bad-ballot-requires returns)

@@ -29,18 +29,18 @@ next-above-requires : tie.Need-next-above-requires
 next-above-requires c κs = search rules
 
 cast-ballot : tie.Need-overflow-cast-ballot
-cast-ballot c = let b : c.next-above.result ≤ 65535 = rw c.next-above.ensures (not-past c.before.before.before.before.before.before.before.args.d.coordinator c.before.before.before.before.before.before.higher.result (sym c.before.before.before.no_next_lem.ensures ∙ last_of_three (not c.before.before.before.before.before.formed.result) (eqb c.before.before.before.before.before.before.before.args.d.phase 3) c.before.before.before.no_next_lem.result (sym c.before.before.again-refusal.ensures ∙ eqb-true _ 0 c.before.if1.true))) in omega arith
+cast-ballot c = let b : c.next-above.result ≤ 65535 = rw c.next-above.ensures (not-past c.before.before.before.before.before.before.before.args.d.coordinator c.before.before.before.before.before.before.higher.result (sym c.before.before.before.no-next.ensures ∙ last_of_three (not c.before.before.before.before.before.formed.result) (eqb c.before.before.before.before.before.before.before.args.d.phase 3) c.before.before.before.no-next.result (sym c.before.before.again-refusal.ensures ∙ eqb-true _ 0 c.before.if1.true))) in omega arith
 
 began-requires : tie.Need-began-requires
 began-requires c κs = search rules
 
 returns : tie.Need-returns
 unfolding again again_refusal
-returns c = let is : c.before.before.before.again-refusal.result ≡ again_refusal c.before.before.before.before.before.before.before.before.args.d = rw (c.before.before.before.again-refusal.ensures, c.before.before.before.before.no_next_lem.ensures, c.before.before.before.before.before.before.before.higher.ensures, c.before.before.before.before.before.before.formed.ensures) in rw (c.began.ensures, c.before.next-above.ensures, c.before.before.before.before.before.before.before.higher.ensures) (taken c.before.before.before.before.before.before.before.before.args.d _ is c.before.before.if1.true)
+returns c = let is : c.before.before.before.again-refusal.result ≡ again_refusal c.before.before.before.before.before.before.before.before.args.d = rw (c.before.before.before.again-refusal.ensures, c.before.before.before.before.no-next.ensures, c.before.before.before.before.before.before.before.higher.ensures, c.before.before.before.before.before.before.formed.ensures) in rw (c.began.ensures, c.before.next-above.ensures, c.before.before.before.before.before.before.before.higher.ensures) (taken c.before.before.before.before.before.before.before.before.args.d _ is c.before.before.if1.true)
 
 returns-2 : tie.Need-returns-2
 unfolding again again_refusal
-returns-2 c = let is : c.before.again-refusal.result ≡ again_refusal c.before.before.before.before.before.before.args.d = rw (c.before.again-refusal.ensures, c.before.before.no_next_lem.ensures, c.before.before.before.before.before.higher.ensures, c.before.before.before.before.formed.ensures) in not_taken c.before.before.before.before.before.before.args.d _ is c.if1.false
+returns-2 c = let is : c.before.again-refusal.result ≡ again_refusal c.before.before.before.before.before.before.args.d = rw (c.before.again-refusal.ensures, c.before.before.no-next.ensures, c.before.before.before.before.before.higher.ensures, c.before.before.before.before.formed.ensures) in not_taken c.before.before.before.before.before.before.args.d _ is c.if1.false
 
 pub again_spec : {M : Type 1} → statement M
 again_spec =

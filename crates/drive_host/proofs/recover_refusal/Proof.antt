@@ -22,23 +22,23 @@ no-next-requires c κs = search rules
 
 returns : tie.Need-returns
 unfolding recover_refusal
-returns c = rw (← c.before.no_next_lem.ensures, ← c.before.before.pieces_kept.ensures, ← c.before.before.before.bad-number.ensures, ← c.before.before.before.before.bad-coordinator.ensures, ← c.before.before.before.before.before.too_many.ensures, c.if1.true)
+returns c = rw (← c.before.no-next.ensures, ← c.before.before.pieces_kept.ensures, ← c.before.before.before.bad-number.ensures, ← c.before.before.before.before.bad-coordinator.ensures, ← c.before.before.before.before.before.too_many.ensures, c.if1.true)
 
 returns-2 : tie.Need-returns-2
 unfolding recover_refusal
-returns-2 c = rw (← c.before.before.no_next_lem.ensures, ← c.before.before.before.pieces_kept.ensures, ← c.before.before.before.before.bad-number.ensures, ← c.before.before.before.before.before.bad-coordinator.ensures, ← c.before.before.before.before.before.before.too_many.ensures, c.before.if1.false, c.if2.true)
+returns-2 c = rw (← c.before.before.no-next.ensures, ← c.before.before.before.pieces_kept.ensures, ← c.before.before.before.before.bad-number.ensures, ← c.before.before.before.before.before.bad-coordinator.ensures, ← c.before.before.before.before.before.before.too_many.ensures, c.before.if1.false, c.if2.true)
 
 returns-3 : tie.Need-returns-3
 unfolding recover_refusal
-returns-3 c = rw (← c.before.before.before.no_next_lem.ensures, ← c.before.before.before.before.pieces_kept.ensures, ← c.before.before.before.before.before.bad-number.ensures, ← c.before.before.before.before.before.before.bad-coordinator.ensures, ← c.before.before.before.before.before.before.before.too_many.ensures, c.before.before.if1.false, c.before.if2.false, c.if3.true)
+returns-3 c = rw (← c.before.before.before.no-next.ensures, ← c.before.before.before.before.pieces_kept.ensures, ← c.before.before.before.before.before.bad-number.ensures, ← c.before.before.before.before.before.before.bad-coordinator.ensures, ← c.before.before.before.before.before.before.before.too_many.ensures, c.before.before.if1.false, c.before.if2.false, c.if3.true)
 
 returns-4 : tie.Need-returns-4
 unfolding recover_refusal
-returns-4 c = rw (← c.before.before.before.before.no_next_lem.ensures, ← c.before.before.before.before.before.pieces_kept.ensures, ← c.before.before.before.before.before.before.bad-number.ensures, ← c.before.before.before.before.before.before.before.bad-coordinator.ensures, ← c.before.before.before.before.before.before.before.before.too_many.ensures, c.before.before.before.if1.false, c.before.before.if2.false, c.before.if3.false, c.if4.true)
+returns-4 c = rw (← c.before.before.before.before.no-next.ensures, ← c.before.before.before.before.before.pieces_kept.ensures, ← c.before.before.before.before.before.before.bad-number.ensures, ← c.before.before.before.before.before.before.before.bad-coordinator.ensures, ← c.before.before.before.before.before.before.before.before.too_many.ensures, c.before.before.before.if1.false, c.before.before.if2.false, c.before.if3.false, c.if4.true)
 
 returns-5 : tie.Need-returns-5
 unfolding recover_refusal
-returns-5 c = rw (← c.before.before.before.before.no_next_lem.ensures, ← c.before.before.before.before.before.pieces_kept.ensures, ← c.before.before.before.before.before.before.bad-number.ensures, ← c.before.before.before.before.before.before.before.bad-coordinator.ensures, ← c.before.before.before.before.before.before.before.before.too_many.ensures, c.before.before.before.if1.false, c.before.before.if2.false, c.before.if3.false, c.if4.false)
+returns-5 c = rw (← c.before.before.before.before.no-next.ensures, ← c.before.before.before.before.before.pieces_kept.ensures, ← c.before.before.before.before.before.before.bad-number.ensures, ← c.before.before.before.before.before.before.before.bad-coordinator.ensures, ← c.before.before.before.before.before.before.before.before.too_many.ensures, c.before.before.before.if1.false, c.before.before.if2.false, c.before.if3.false, c.if4.false)
 
 pub recover_refusal_spec : {M : Type 1} → statement M
 recover_refusal_spec =

@@ -73,13 +73,13 @@ returns-2 : tie.Need-returns-2
 returns-2 c =
     let c₀ = c.before.before.before.before.before.before.before in
     let a = c₀.args in
-    let h = c.before.before.before.before.asked_shape_lem.result in
+    let h = c.before.before.before.before.asked-shape.result in
     let ss = asked_sections h a.code a.t a.ballot a.list a.count a.set in
     let few = c.before.before.before.before.before.if1.false in
     let f = c.before.before.before.front_length.ensures in
     let s = c.before.before.cost.ensures in
     let k = asked-length h a.code a.t a.ballot a.list a.count a.set c₀.well-formed.1.1.1.1.0.1.0.1 few in
-    let e = sent-14 (cat ss) a.out.now (le-ltb 8 a.count few) refl (omega (arith, c.before.if2.true)) ∙ ap (λ (x : Shape). sent (ltb 8 a.count) (cat (asked_sections x a.code a.t a.ballot a.list a.count a.set)) a.out.now) c.before.before.before.before.asked_shape_lem.ensures in
+    let e = sent-14 (cat ss) a.out.now (le-ltb 8 a.count few) refl (omega (arith, c.before.if2.true)) ∙ ap (λ (x : Shape). sent (ltb 8 a.count) (cat (asked_sections x a.code a.t a.ballot a.list a.count a.set)) a.out.now) c.before.before.before.before.asked-shape.ensures in
     (c.refused2.ensures ∙ ap answer e, ap (λ (x : Encoding). x.buffer) e)
 
 slice-aggregate-put-header : tie.Need-slice-aggregate-put-header
@@ -95,13 +95,13 @@ put-front-requires : tie.Need-put-front-requires
 put-front-requires c κs =
     let c₀ = c.before.before.before.before.before.before.before.before.before.before in
     let a = c₀.args in
-    let h = c.before.before.before.before.before.before.before.asked_shape_lem.result in
+    let h = c.before.before.before.before.before.before.before.asked-shape.result in
     let ss = asked_sections h a.code a.t a.ballot a.list a.count a.set in
     let few = c.before.before.before.before.before.before.before.before.if1.false in
     let f = c.before.before.before.before.before.before.front_length.ensures in
     let s = c.before.before.before.before.before.cost.ensures in
     let k = asked-length h a.code a.t a.ballot a.list a.count a.set c₀.well-formed.1.1.1.1.0.1.0.1 few in
-    let small = asked_small a.code h c.before.before.before.before.before.before.before.asked_shape_lem.ensures in
+    let small = asked_small a.code h c.before.before.before.before.before.before.before.asked-shape.ensures in
     let room : 0 + length (cat ss) ≤ length cleared = omega arith in
     let p₁ = section-put ss 0 cleared room 0 (lit< tt) (none-put ss 0 cleared room) c.before.before.put-header.ensures in
     section-room ss 0 cleared room 1 (lit< tt) p₁
@@ -114,13 +114,13 @@ unfolding be
 put-u32-at-requires c κs =
     let c₀ = c.before.before.before.before.before.before.before.before.before.before.before.before.before in
     let a = c₀.args in
-    let h = c.before.before.before.before.before.before.before.before.before.before.asked_shape_lem.result in
+    let h = c.before.before.before.before.before.before.before.before.before.before.asked-shape.result in
     let ss = asked_sections h a.code a.t a.ballot a.list a.count a.set in
     let few = c.before.before.before.before.before.before.before.before.before.before.before.if1.false in
     let f = c.before.before.before.before.before.before.before.before.before.front_length.ensures in
     let s = c.before.before.before.before.before.before.before.before.cost.ensures in
     let k = asked-length h a.code a.t a.ballot a.list a.count a.set c₀.well-formed.1.1.1.1.0.1.0.1 few in
-    let small = asked_small a.code h c.before.before.before.before.before.before.before.before.before.before.asked_shape_lem.ensures in
+    let small = asked_small a.code h c.before.before.before.before.before.before.before.before.before.before.asked-shape.ensures in
     let room : 0 + length (cat ss) ≤ length cleared = omega arith in
     let p₁ = section-put ss 0 cleared room 0 (lit< tt) (none-put ss 0 cleared room) c.before.before.before.before.before.put-header.ensures in
     let p₂ = section-put ss 0 cleared room 1 (lit< tt) p₁ c.before.before.put_front.ensures in
@@ -133,13 +133,13 @@ put-piece-list-requires : tie.Need-put-piece-list-requires
 put-piece-list-requires c κs =
     let c₀ = c.before.before.before.before.before.before.before.before.before.before.before.before.before.before.before.before in
     let a = c₀.args in
-    let h = c.before.before.before.before.before.before.before.before.before.before.before.before.before.asked_shape_lem.result in
+    let h = c.before.before.before.before.before.before.before.before.before.before.before.before.before.asked-shape.result in
     let ss = asked_sections h a.code a.t a.ballot a.list a.count a.set in
     let few = c.before.before.before.before.before.before.before.before.before.before.before.before.before.before.if1.false in
     let f = c.before.before.before.before.before.before.before.before.before.before.before.before.front_length.ensures in
     let s = c.before.before.before.before.before.before.before.before.before.before.before.cost.ensures in
     let k = asked-length h a.code a.t a.ballot a.list a.count a.set c₀.well-formed.1.1.1.1.0.1.0.1 few in
-    let small = asked_small a.code h c.before.before.before.before.before.before.before.before.before.before.before.before.before.asked_shape_lem.ensures in
+    let small = asked_small a.code h c.before.before.before.before.before.before.before.before.before.before.before.before.before.asked-shape.ensures in
     let room : 0 + length (cat ss) ≤ length cleared = omega arith in
     let p₁ = section-put ss 0 cleared room 0 (lit< tt) (none-put ss 0 cleared room) c.before.before.before.before.before.before.before.before.put-header.ensures in
     let p₂ = section-put ss 0 cleared room 1 (lit< tt) p₁ c.before.before.before.before.before.put_front.ensures in
@@ -154,13 +154,13 @@ put-set-if-requires : tie.Need-put-set-if-requires
 put-set-if-requires c κs =
     let c₀ = c.before.before.before.before.before.before.before.before.before.before.before.before.before.before.before.before.before.before.before in
     let a = c₀.args in
-    let h = c.before.before.before.before.before.before.before.before.before.before.before.before.before.before.before.before.asked_shape_lem.result in
+    let h = c.before.before.before.before.before.before.before.before.before.before.before.before.before.before.before.before.asked-shape.result in
     let ss = asked_sections h a.code a.t a.ballot a.list a.count a.set in
     let few = c.before.before.before.before.before.before.before.before.before.before.before.before.before.before.before.before.before.if1.false in
     let f = c.before.before.before.before.before.before.before.before.before.before.before.before.before.before.before.front_length.ensures in
     let s = c.before.before.before.before.before.before.before.before.before.before.before.before.before.before.cost.ensures in
     let k = asked-length h a.code a.t a.ballot a.list a.count a.set c₀.well-formed.1.1.1.1.0.1.0.1 few in
-    let small = asked_small a.code h c.before.before.before.before.before.before.before.before.before.before.before.before.before.before.before.before.asked_shape_lem.ensures in
+    let small = asked_small a.code h c.before.before.before.before.before.before.before.before.before.before.before.before.before.before.before.before.asked-shape.ensures in
     let room : 0 + length (cat ss) ≤ length cleared = omega arith in
     let p₁ = section-put ss 0 cleared room 0 (lit< tt) (none-put ss 0 cleared room) c.before.before.before.before.before.before.before.before.before.before.before.put-header.ensures in
     let p₂ = section-put ss 0 cleared room 1 (lit< tt) p₁ c.before.before.before.before.before.before.before.before.put_front.ensures in
@@ -175,11 +175,11 @@ copy-front-requires : tie.Need-copy-front-requires
 copy-front-requires c κs =
     let c₀ = c.before.before.before.before.before.before.before.before.before.before.before.before.before.before.before.before.before.before.before.before.before.before.before in
     let a = c₀.args in
-    let h = c.before.before.before.before.before.before.before.before.before.before.before.before.before.before.before.before.before.before.before.before.asked_shape_lem.result in
+    let h = c.before.before.before.before.before.before.before.before.before.before.before.before.before.before.before.before.before.before.before.before.asked-shape.result in
     let few = c.before.before.before.before.before.before.before.before.before.before.before.before.before.before.before.before.before.before.before.before.before.if1.false in
     let f = c.before.before.before.before.before.before.before.before.before.before.before.before.before.before.before.before.before.before.before.front_length.ensures in
     let s = c.before.before.before.before.before.before.before.before.before.before.before.before.before.before.before.before.before.before.cost.ensures in
-    let small = asked_small a.code h c.before.before.before.before.before.before.before.before.before.before.before.before.before.before.before.before.before.before.before.before.asked_shape_lem.ensures in
+    let small = asked_small a.code h c.before.before.before.before.before.before.before.before.before.before.before.before.before.before.before.before.before.before.before.before.asked-shape.ensures in
     let fits = c.before.before.before.before.before.before.before.before.before.before.before.before.before.before.before.before.before.if2.false in
     let same = c.before.before.before.put-set-if.auto.0 ∙ c.before.before.before.before.before.before.put-piece-list.auto.0 ∙ c.before.before.before.before.before.before.before.before.before.put-u32-at.auto.0 ∙ c.before.before.before.before.before.before.before.before.before.before.before.before.put_front.auto.0 ∙ c.before.before.before.before.before.before.before.before.before.before.before.before.before.before.before.put-header.auto.0 in
     (omega arith, omega arith)
@@ -194,13 +194,13 @@ returns-3 : tie.Need-returns-3
 returns-3 c =
     let c₀ = c.before.before.before.before.before.before.before.before.before.before.before.before.before.before.before.before.before.before.before.before.before.before.before.before.before.before in
     let a = c₀.args in
-    let h = c.before.before.before.before.before.before.before.before.before.before.before.before.before.before.before.before.before.before.before.before.before.before.before.asked_shape_lem.result in
+    let h = c.before.before.before.before.before.before.before.before.before.before.before.before.before.before.before.before.before.before.before.before.before.before.before.asked-shape.result in
     let ss = asked_sections h a.code a.t a.ballot a.list a.count a.set in
     let few = c.before.before.before.before.before.before.before.before.before.before.before.before.before.before.before.before.before.before.before.before.before.before.before.before.if1.false in
     let f = c.before.before.before.before.before.before.before.before.before.before.before.before.before.before.before.before.before.before.before.before.before.before.front_length.ensures in
     let s = c.before.before.before.before.before.before.before.before.before.before.before.before.before.before.before.before.before.before.before.before.before.cost.ensures in
     let k = asked-length h a.code a.t a.ballot a.list a.count a.set c₀.well-formed.1.1.1.1.0.1.0.1 few in
-    let small = asked_small a.code h c.before.before.before.before.before.before.before.before.before.before.before.before.before.before.before.before.before.before.before.before.before.before.before.asked_shape_lem.ensures in
+    let small = asked_small a.code h c.before.before.before.before.before.before.before.before.before.before.before.before.before.before.before.before.before.before.before.before.before.before.before.asked-shape.ensures in
     let room : 0 + length (cat ss) ≤ length cleared = omega arith in
     let p₁ = section-put ss 0 cleared room 0 (lit< tt) (none-put ss 0 cleared room) c.before.before.before.before.before.before.before.before.before.before.before.before.before.before.before.before.before.before.put-header.ensures in
     let p₂ = section-put ss 0 cleared room 1 (lit< tt) p₁ c.before.before.before.before.before.before.before.before.before.before.before.before.before.before.before.put_front.ensures in
@@ -209,7 +209,7 @@ returns-3 c =
     let p₅ = section-put ss 0 cleared room 4 (lit< tt) p₄ c.before.before.before.before.before.before.put-set-if.ensures in
     let fits = c.before.before.before.before.before.before.before.before.before.before.before.before.before.before.before.before.before.before.before.before.if2.false in
     let all : length (cat ss) ≡ ((4 + c.before.before.before.before.before.before.before.before.before.before.before.before.before.before.before.before.before.before.before.before.before.before.front_length.result) + (4 + a.count * 16)) + c.before.before.before.before.before.before.before.before.before.before.before.before.before.before.before.before.before.before.before.before.before.cost.result = omega arith in
-    let e = sent-all (cat ss) a.out.now (le-ltb 8 a.count few) all (omega arith) p₅ c.before.before.copy-front.ensures ∙ ap (λ (x : Shape). sent (ltb 8 a.count) (cat (asked_sections x a.code a.t a.ballot a.list a.count a.set)) a.out.now) c.before.before.before.before.before.before.before.before.before.before.before.before.before.before.before.before.before.before.before.before.before.before.before.asked_shape_lem.ensures in
+    let e = sent-all (cat ss) a.out.now (le-ltb 8 a.count few) all (omega arith) p₅ c.before.before.copy-front.ensures ∙ ap (λ (x : Shape). sent (ltb 8 a.count) (cat (asked_sections x a.code a.t a.ballot a.list a.count a.set)) a.out.now) c.before.before.before.before.before.before.before.before.before.before.before.before.before.before.before.before.before.before.before.before.before.before.before.asked-shape.ensures in
     (ap answer e, ap (λ (x : Encoding). x.buffer) e)
 
 pub asked_spec : {M : Type 1} → statement M

@@ -14,7 +14,7 @@ bare-requires : tie.Need-bare-requires
 bare-requires c κs = search rules
 
 returns-2 : tie.Need-returns-2
-returns-2 c = rw (eq-eqb _ 8 c.before.before.if1.false, ← c.before.word_at_lem.ensures) c.bare.ensures
+returns-2 c = rw (eq-eqb _ 8 c.before.before.if1.false, ← c.before.word-at.ensures) c.bare.ensures
 
 pub is_bare_spec : {M : Type 1} → statement M
 is_bare_spec = tie.close (tie.spec returns word-at-requires bare-requires returns-2)

@@ -35,7 +35,7 @@ returns : tie.Need-returns
 returns c =
     let c₀ = c.before.before.before.before.before.before in
     let y = to_z-of_z {w = w32} {z = c.to-i32.result} (record { sfits = c.to-i32.type-inv }) in
-    piece-read c₀.args.s.now c₀.args.at c₀.requires c.before.before.before.before.word_at_lem.ensures c.before.before.before.word-at2.ensures c.before.before.word-at3.ensures c.before.word-at4.ensures (y ∙ c.to-i32.ensures)
+    piece-read c₀.args.s.now c₀.args.at c₀.requires c.before.before.before.before.word-at.ensures c.before.before.before.word-at2.ensures c.before.before.word-at3.ensures c.before.word-at4.ensures (y ∙ c.to-i32.ensures)
 
 pub piece_at_spec : {M : Type 1} → statement M
 piece_at_spec =

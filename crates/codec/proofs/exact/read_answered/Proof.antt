@@ -77,7 +77,7 @@ returns c =
     let b = rw s at c.before.before.before.before.before.before.cost.ensures.0 in
     let p = rw s at c.before.before.before.before.cost2.ensures.0 in
     let n = rw s at c.before.before.cost3.ensures.0 in
-    let d = answered-decoded _ x c.before.before.before.before.before.before.before.before.before.before.word_at_lem.ensures c.before.before.before.before.before.before.before.before.before.word-at2.ensures (rw s at c.before.before.before.before.before.before.before.word-if.ensures) (rw (s, b) at c.before.before.before.before.before.word-if2.ensures) (rw (s, b, p) at c.before.before.before.word-if3.ensures) (rw (s, b, p, n) at c.before.hyper-if.ensures) in
+    let d = answered-decoded _ x c.before.before.before.before.before.before.before.before.before.before.word-at.ensures c.before.before.before.before.before.before.before.before.before.word-at2.ensures (rw s at c.before.before.before.before.before.before.before.word-if.ensures) (rw (s, b) at c.before.before.before.before.before.word-if2.ensures) (rw (s, b, p) at c.before.before.before.word-if3.ensures) (rw (s, b, p, n) at c.before.hyper-if.ensures) in
     rw c.plain.ensures d
 
 pub read_answered_spec : {M : Type 1} → statement M

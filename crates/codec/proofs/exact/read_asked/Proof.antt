@@ -20,7 +20,7 @@ word-if-requires c κs =
     let x = c.before.before.before.requires in
     let long = x.exact in
     let place = x.place in
-    let s = c.asked_shape_lem.ensures in
+    let s = c.asked-shape.ensures in
     rw s (omega arith)
 
 add-list-at : tie.Need-overflow-add-list-at
@@ -47,7 +47,7 @@ set-if-requires c κs =
     let x = c.before.before.before.before.before.requires in
     let long = x.exact in
     let place = x.place in
-    let s = c.before.before.asked_shape_lem.ensures in
+    let s = c.before.before.asked-shape.ensures in
     rw s (omega arith)
 
 plain-requires : tie.Need-plain-requires
@@ -58,8 +58,8 @@ returns c =
     let x = c.before.before.before.before.before.before.before.requires in
     let long = x.exact in
     let place = x.place in
-    let s = c.before.before.before.before.asked_shape_lem.ensures in
-    let d = asked-decoded _ x c.before.before.before.before.before.word_at_lem.ensures (rw s at c.before.before.before.word-if.ensures) c.before.before.list_at.ensures (rw s at c.before.set_if.ensures) in
+    let s = c.before.before.before.before.asked-shape.ensures in
+    let d = asked-decoded _ x c.before.before.before.before.before.word-at.ensures (rw s at c.before.before.before.word-if.ensures) c.before.before.list_at.ensures (rw s at c.before.set_if.ensures) in
     rw c.plain.ensures d
 
 pub read_asked_spec : {M : Type 1} → statement M

@@ -17,7 +17,7 @@ plain-requires : tie.Need-plain-requires
 plain-requires c κs = search rules
 
 returns : tie.Need-returns
-returns c = ap (λ (m : Message). record { refusal = 0; message = m }) c.plain.ensures ∙ bare-decoded _ c.before.before.before.before.requires c.before.before.word_at_lem.ensures c.before.word-at2.ensures
+returns c = ap (λ (m : Message). record { refusal = 0; message = m }) c.plain.ensures ∙ bare-decoded _ c.before.before.before.before.requires c.before.before.word-at.ensures c.before.word-at2.ensures
 
 pub read_bare_spec : {M : Type 1} → statement M
 read_bare_spec = tie.close (tie.spec word-at-requires word-at-requires-2 plain-requires returns)

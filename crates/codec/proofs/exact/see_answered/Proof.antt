@@ -47,7 +47,7 @@ answered-requires c κs = search rules
 
 returns-2 : tie.Need-returns-2
 returns-2 c =
-    let k = c.before.before.before.before.before.before.before.word_at_lem.result in
+    let k = c.before.before.before.before.before.before.before.word-at.result in
     let h = c.before.before.before.before.before.before.answered_shape.result in
     let s = c.before.before.before.before.before.before.answered_shape.ensures in
     let a = c.before.before.before.before.before.asked in
@@ -64,7 +64,7 @@ returns-2 c =
     let first = or_no_l (a.result || h.prepared) h.values none in
     let all : long ≡ sum = eqb-true long sum (and_yes_r (c.answered.result && not other) (eqb long sum) e) in
     record {
-      code = c.before.before.before.before.before.before.before.word_at_lem.ensures;
+      code = c.before.before.before.before.before.before.before.word-at.ensures;
       kind = sym c.answered.ensures ∙ and_yes-l c.answered.result (not other) both;
       other = sym a.ensures ∙ or_no_l a.result h.prepared first;
       unprepared = ap (λ (x : Shape). x.prepared) (sym s) ∙ or_no_r a.result h.prepared first;

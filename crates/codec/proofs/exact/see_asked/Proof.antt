@@ -58,8 +58,8 @@ asked-requires c κs = search rules
 
 returns-2 : tie.Need-returns-2
 returns-2 c =
-    let k = c.before.before.before.before.before.word_at_lem.result in
-    let s = c.before.before.before.before.asked_shape_lem.ensures in
+    let k = c.before.before.before.before.before.word-at.result in
+    let s = c.before.before.before.before.asked-shape.ensures in
     let at = c.before.before.before.cost in
     let n = c.before.before.word-at2 in
     let last = c.before.cost2 in
@@ -71,7 +71,7 @@ returns-2 c =
     let q : last.result ≡ cost (asked_shape k).set 32 = rw s at last.ensures.0 in
     let all : long ≡ sum = eqb-true long sum (and_yes_r (c.asked.result && leb n.result 8) (eqb long sum) e) in
     record {
-      code = c.before.before.before.before.before.word_at_lem.ensures;
+      code = c.before.before.before.before.before.word-at.ensures;
       kind = sym c.asked.ensures ∙ and_yes-l c.asked.result (leb n.result 8) few;
       place = omega arith;
       count = n.ensures;

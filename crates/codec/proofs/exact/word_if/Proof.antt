@@ -10,7 +10,7 @@ word-at-requires : tie.Need-word-at-requires
 word-at-requires c κs = rw c.if1.true at c.before.before.requires
 
 returns : tie.Need-returns
-returns c = rw c.before.if1.true (reads_when 0 refl (word_read _ _ (rw c.before.if1.true at c.before.before.before.requires) c.word_at_lem.ensures))
+returns c = rw c.before.if1.true (reads_when 0 refl (word_read _ _ (rw c.before.if1.true at c.before.before.before.requires) c.word-at.ensures))
 
 returns-2 : tie.Need-returns-2
 returns-2 c = rw (c.if1.false, add-zero) (reads_none 0 u32 _ _ refl)

@@ -19,7 +19,7 @@ returns c = rw (← c.before.before.bad-coordinator.ensures, c.if1.true)
 
 returns-2 : tie.Need-returns-2
 unfolding next_ballot next_refusal
-returns-2 c = rw (← c.before.before.before.bad-coordinator.ensures, c.before.if1.false, ← c.before.before.no_next_lem.ensures, c.if2.true)
+returns-2 c = rw (← c.before.before.before.bad-coordinator.ensures, c.before.if1.false, ← c.before.before.no-next.ensures, c.if2.true)
 
 next-above-requires : tie.Need-next-above-requires
 next-above-requires c κs = search rules
@@ -27,13 +27,13 @@ next-above-requires c κs = search rules
 cast-t7 : tie.Need-overflow-cast-t7
 cast-t7 c =
     let start = c.before.before.before.before.before in
-    let kept = not-past start.args.c start.args.n (sym c.before.before.before.no_next_lem.ensures ∙ c.before.if2.false) in
+    let kept = not-past start.args.c start.args.n (sym c.before.before.before.no-next.ensures ∙ c.before.if2.false) in
     record { fits = rw c.next-above.ensures (omega (arith, kept)) }
 
 returns-3 : tie.Need-returns-3
 unfolding next_ballot next_refusal
 returns-3 c =
-    rw (← c.before.before.before.before.bad-coordinator.ensures, c.before.before.if1.false, ← c.before.before.before.no_next_lem.ensures, c.before.if2.false, c.next-above.ensures)
+    rw (← c.before.before.before.before.bad-coordinator.ensures, c.before.before.if1.false, ← c.before.before.before.no-next.ensures, c.before.if2.false, c.next-above.ensures)
 
 pub next_spec : {M : Type 1} → statement M
 next_spec =

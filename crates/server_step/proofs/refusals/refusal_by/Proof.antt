@@ -33,7 +33,7 @@ first-refusal-requires c κs = search rules
 
 returns : tie.Need-returns
 unfolding refusal_by
-returns c = rw (c.first-refusal.ensures, c.before.other_set_lem.ensures, c.before.before.other_pieces_lem.ensures, c.before.before.before.untouched.ensures, c.before.before.before.before.bad-sets.ensures, c.before.before.before.before.before.bad-pieces.ensures, c.before.before.before.before.before.before.bad_numbers_lem.ensures, c.before.before.before.before.before.before.before.not_taken.ensures, c.before.before.before.before.before.before.before.before.shards-of.ensures)
+returns c = rw (c.first-refusal.ensures, c.before.other-set.ensures, c.before.before.other-pieces.ensures, c.before.before.before.untouched.ensures, c.before.before.before.before.bad-sets.ensures, c.before.before.before.before.before.bad-pieces.ensures, c.before.before.before.before.before.before.bad-numbers.ensures, c.before.before.before.before.before.before.before.not_taken.ensures, c.before.before.before.before.before.before.before.before.shards-of.ensures)
 
 pub refusal_by_spec : {M : Type 1} → statement M
 refusal_by_spec =
