@@ -1,0 +1,56 @@
+-- `graph::closure` meets its contract: after k turns the rows are those of k passes, and `common` is part of each; within a pass the first t rows are done.
+-- Assumes nothing.
+use mathlib.Core.Path.{◌≡◌, refl, sym, ap, ◌∙◌}
+use mathlib.Core.Logic.{⊎_elim}
+use Prim.Native.Nat.{ℕ, ◌+◌, ◌-◌, ◌≤◌}
+use native.Mathlib.Omega.{arith}
+use borrow.Author.Rules.{rules}
+use borrow.Author.Tests.{not-false}
+use borrow.Author.Count.{below_none}
+use lib.ListN.{get_or}
+use Rattle.graph.specs.Walk.{grown, passes, rows_of}
+use Rattle.graph.proofs.Arrays.{words, long}
+use Rattle.graph.proofs.Places.{upto, upto-none}
+use Rattle.graph.proofs.InPlace.{Shared, shared_more, Common, common_none, next_row, row_done, made, left}
+use Rattle.graph.proofs.closure.Goals as goal
+
+pub loop-k-init : goal.loop-k-init
+unfolding passes
+loop-k-init c = (search rules, refl, common_none c.args.deps 64)
+
+pub loop-t-init : goal.loop-t-init
+loop-t-init c = (search rules, sym (upto-none _ _), below_none _)
+
+pub loop-t-preserved : goal.loop-t-preserved
+loop-t-preserved c =
+    let k = c.loop-k.k in
+    let xs = c.loop-k.rows in
+    let own = get_or xs k 0 in
+    let t = c.loop-t.t in
+    let rows = c.loop-t.rows in
+    let w = c.grown-w.result in
+    let inv = c.loop-t.invariant in (
+      search rules,
+      row_done k own t xs rows inv.1 w c.grown-w.ensures,
+      shared_more k own xs c.loop-t.common t w c.both-common.result inv.2 (c.grown-w.ensures ∙ ap (grown k own) (next_row k own t xs rows inv.1)) c.both-common.ensures,
+    )
+
+pub loop-k-preserved : goal.loop-k-preserved
+loop-k-preserved c =
+    let deps = c.args.deps in
+    let k = c.loop-k.k in
+    let rows = c.loop-k.rows in
+    let same = c.loop-k.invariant.1 in
+    let size = long deps c.well-formed.0 in
+    let turn : (c.if-not-within.rows ≡ passes (k + 1) deps) × Common c.if-not-within.rows c.if-not-within.common 64 =
+    ⊎_elim
+    (λ x. rw (x.3, x.4) (made deps k rows same size x.1.t (omega (arith, x.1.inv.0, x.2.left)) x.1.common x.1.inv.2 x.1.rows x.1.inv.1))
+    (λ x. rw (x.1, x.2) (left deps k rows same size (words deps c.well-formed.0) c.loop-k.common c.loop-k.invariant.2 (sym c.within.ensures ∙ not-false _ x.0.left), c.loop-k.invariant.2))
+    c.if-not-within.branch in
+    (search rules, turn.0, turn.1)
+
+pub returns : goal.returns
+unfolding rows_of
+returns c =
+    let at-end : c.loop-k.k ≡ 64 = omega arith in
+    c.loop-k.invariant.1 ∙ ap (λ (n : ℕ). passes n c.args.deps) at-end

@@ -1,0 +1,18 @@
+-- `graph::group` meets its contract: after u turns the word has those below u that t is before.
+-- Assumes nothing.
+use mathlib.Core.Path.{◌≡◌, ap, ◌∙◌}
+use Prim.Native.Nat.{◌-◌, ◌≤◌}
+use native.Mathlib.Omega.{arith}
+use borrow.Author.Rules.{rules}
+use Rattle.masks.specs.Folds.{mask_of}
+use Rattle.masks.proofs.Turns.{mask-none, mask_step}
+use Rattle.graph.specs.Walk.{before}
+use Rattle.graph.proofs.Arrays.{words}
+use Rattle.graph.proofs.InWords.{group-word}
+use Rattle.graph.proofs.group.Given as goal
+
+abbrev pub invariant-loop-u : goal.invariant-loop-u
+invariant-loop-u l = (l.u ≤ 64) × (l.after ≡ mask_of (before l.rows l.t) l.u)
+
+abbrev pub decreases-loop-u : goal.decreases-loop-u
+decreases-loop-u l = 64 - l.u

@@ -1,0 +1,7 @@
+-- `graph::waits` meets its contract.
+-- Assumes nothing.
+use borrow.Author.Rules.{rules}
+use Rattle.graph.proofs.waits.Goals as goal
+
+pub returns : goal.returns
+returns c = cc
