@@ -59,7 +59,7 @@ pub fn same(a: Message, b: Message) -> bool {
 }
 
 // The bytes that a server writes for a message, and the server after it.
-#[derive(Drop)]
+#[derive(Clone, Copy)]
 struct Written {
     answer: Answer,
     bytes: [u8; 176],

@@ -22,7 +22,7 @@ use station::servers::{
 use wire::Message;
 
 // What a message leaves: the answer, and the server after it.
-#[derive(Drop)]
+#[derive(Clone, Copy)]
 pub struct Exchanged {
     pub answer: Answer,
     pub server: Server,

@@ -6,21 +6,21 @@ pub mod pcap; // pcap.rt: a file's header, and a record's head
 pub mod text; // text.rt: decimals and lines
 
 // Whether a file begins as it should, and its byte order.
-#[derive(Drop)]
+#[derive(Clone, Copy)]
 pub struct Header {
     pub good: bool,
     pub little: bool,
 }
 
 // Of a record's head: when, and how many bytes were captured.
-#[derive(Drop)]
+#[derive(Clone, Copy)]
 pub struct Head {
     pub seconds: u32,
     pub captured: u32,
 }
 
 // The last column of a line.
-#[derive(Drop)]
+#[derive(Clone, Copy)]
 pub enum Shown {
     Dash,
     Code(u32),
@@ -28,7 +28,7 @@ pub enum Shown {
 }
 
 // What a line says of a record's data. Where it wasn't read there is no code and no T.
-#[derive(Drop)]
+#[derive(Clone, Copy)]
 pub struct Told {
     pub read: bool,
     pub code: u32,

@@ -30,7 +30,7 @@ fn get_header(s: &[u8], c: Cursor) -> Got32
     Got32 { v: 0, next }
 }
 
-#[derive(Drop)]
+#[derive(Clone, Copy)]
 struct GotFront {
     pub t: u32,
     pub server: u32,

@@ -117,7 +117,7 @@ pub fn read_bare(bytes: &[u8]) -> Decoded
 }
 
 // A message with pieces: its code, where its count stands, and the count; and whether the bytes are as many as these say.
-#[derive(Drop)]
+#[derive(Clone, Copy)]
 pub struct SeenAsked {
     pub exact: bool,
     pub code: u32,
@@ -172,7 +172,7 @@ pub fn read_asked(bytes: &[u8], code: u32, at: usize, count: u32) -> Decoded
 }
 
 // A server's answer without results and without what it accepted.
-#[derive(Drop)]
+#[derive(Clone, Copy)]
 pub struct SeenAnswered {
     pub exact: bool,
     pub code: u32,

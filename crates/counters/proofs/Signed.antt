@@ -42,7 +42,7 @@ pub back : (a : ℤ) → SFits w32 a → to_z w32 (of_z w32 a) ≡ a
 back a h = to_z-of_z h
 
 pub wide : (a : ℤ) → SFits w32 a → to_z w64 (of_z w64 (to_z w32 (of_z w32 a))) ≡ a
-wide a h = ap (λ (z : ℤ). to_z w64 (of_z w64 z)) (back a h) ∙ to_z-of_z (sfits_widen tt h)
+wide a h = ap (λ (z : ℤ). to_z w64 (of_z w64 z)) (back a h) ∙ to_z-of_z {w = w64} (sfits_widen {w = w32} {w' = w64} (tt {0}) h)
 
 pub summed : (a b : ℤ) → SFits w32 a → SFits w32 b
     → to_z w64 (of_z w64 (to_z w64 (of_z w64 (to_z w32 (of_z w32 a))) +ℤ to_z w64 (of_z w64 (to_z w32 (of_z w32 b))))) ≡ a +ℤ b

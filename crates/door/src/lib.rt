@@ -8,14 +8,14 @@ pub mod told; // told.rt: what an outcome tells, and what it leaves
 
 // What a call that writes a message tells: the refusal or 0, and how many bytes it wrote, 0 on a refusal.
 #[repr(C)]
-#[derive(Drop)]
+#[derive(Clone, Copy)]
 pub struct Answer {
     pub refusal: u32,
     pub length: u32,
 }
 
 // What a message leaves at a server: the answer, and the one record to store where that refuses nothing, with its place.
-#[derive(Drop)]
+#[derive(Clone, Copy)]
 pub struct Taken {
     pub answer: Answer,
     pub place: usize,
@@ -24,7 +24,7 @@ pub struct Taken {
 
 // The message due to a drive's servers: the refusal or 0, how many bytes it has, and the servers, bit s for the server s. All but the refusal is 0 on a refusal.
 #[repr(C)]
-#[derive(Drop)]
+#[derive(Clone, Copy)]
 pub struct Due {
     pub refusal: u32,
     pub length: u32,
@@ -33,7 +33,7 @@ pub struct Due {
 
 // What a run tells: the refusal or 0, and how many numbers ran.
 #[repr(C)]
-#[derive(Drop)]
+#[derive(Clone, Copy)]
 pub struct Counted {
     pub refusal: u32,
     pub many: u32,
@@ -41,7 +41,7 @@ pub struct Counted {
 
 // A counter, or a result and whether it was kept. None where `some` is 0, and the rest is then 0.
 #[repr(C)]
-#[derive(Drop)]
+#[derive(Clone, Copy)]
 pub struct Reading {
     pub some: u32,
     pub value: i32,
@@ -50,7 +50,7 @@ pub struct Reading {
 
 // A number of the log. None where `some` is 0, and the number is then 0.
 #[repr(C)]
-#[derive(Drop)]
+#[derive(Clone, Copy)]
 pub struct LogEntry {
     pub some: u32,
     pub number: u32,

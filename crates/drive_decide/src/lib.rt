@@ -12,28 +12,28 @@ pub mod votes; // votes.rt: the highest accepted ballot
 pub mod words; // words.rt: the arrival words, whether they are equal, and their union
 
 // The phase that a decision goes to, with its set or none.
-#[derive(Drop)]
+#[derive(Clone, Copy)]
 pub struct Turn {
     pub phase: u32,
     pub chosen: MaybeSet,
 }
 
 // What the words of one shard say: their union, and whether every counted answer has one and they are equal.
-#[derive(Drop)]
+#[derive(Clone, Copy)]
 pub struct InShard {
     pub union: u64,
     pub equal: bool,
 }
 
 // The same of all shards, with a word for each.
-#[derive(Drop)]
+#[derive(Clone, Copy)]
 pub struct InShards {
     pub union: Set,
     pub equal: bool,
 }
 
 // Whether some answer holds an accepted set, and the one of the highest ballot.
-#[derive(Drop)]
+#[derive(Clone, Copy)]
 pub struct Vote {
     pub held: bool,
     pub set: Set,

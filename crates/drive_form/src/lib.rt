@@ -15,7 +15,7 @@ pub mod answers; // answers.rt: what one answer holds, and its form
 pub mod counts; // counts.rt: whether the servers that answered decide
 
 // What a walk of the answers finds: the servers counted, what is in any of their arrival words, and whether every accepted ballot and set is in form.
-#[derive(Drop)]
+#[derive(Clone, Copy)]
 pub struct Walked {
     pub answered: u64,
     pub words: u64,

@@ -20,7 +20,7 @@ use wire::Message;
 pub mod weighing; // weighing.rt: what a reply comes to, made and taken apart
 
 // What a reply comes to. On a refusal the rest is 0. If it turns the drive to a new phase, `t` to `seen` are the drive after it, which has no answers. Else one answer, in its place, and the promise seen are all that may have changed, and the rest is 0.
-#[derive(Drop)]
+#[derive(Clone, Copy)]
 pub struct Weighed {
     pub refusal: u32,
     pub turns: bool,

@@ -18,7 +18,7 @@ pub mod shapes; // shapes.rt: the kinds of messages
 
 // What encoding answers: the refusal or 0, and how many bytes the message takes, 0 on a refusal.
 #[repr(C)]
-#[derive(Drop)]
+#[derive(Clone, Copy)]
 pub struct Encoded {
     pub refusal: u32,
     pub length: u32,

@@ -1,5 +1,6 @@
 // The fourteen messages, each made from its fields, and the table of their codes. A field that a message does not have is zero.
 #![tactic(auto)]
+
 ghost use Rattle.std.specs.Prelude.{◌≡◌};
 ghost use Rattle.rules.specs.Pieces.{no_pieces};
 ghost use Rattle.rules.specs.Sets.{no_set};

@@ -10,7 +10,7 @@ use crate::get_parts::number;
 use rules::{Piece, Pieces, Value, Values};
 use xdr::Cursor;
 
-#[derive(Drop)]
+#[derive(Clone, Copy)]
 pub struct GotPiece {
     pub v: Piece,
     pub next: Cursor,
@@ -36,7 +36,7 @@ pub fn get_piece(s: &[u8], c: Cursor) -> GotPiece
     GotPiece { v, next }
 }
 
-#[derive(Drop)]
+#[derive(Clone, Copy)]
 pub struct GotPieceList {
     pub v: [Piece; 8],
     pub next: Cursor,
@@ -65,7 +65,7 @@ pub fn get_piece_list(s: &[u8], c: Cursor, n: usize) -> GotPieceList
     GotPieceList { v, next: cur }
 }
 
-#[derive(Drop)]
+#[derive(Clone, Copy)]
 pub struct GotPieces {
     pub v: Pieces,
     pub next: Cursor,
@@ -94,7 +94,7 @@ pub fn get_pieces_if(has: bool, s: &[u8], c: Cursor) -> GotPieces
     GotPieces { v, next: c }
 }
 
-#[derive(Drop)]
+#[derive(Clone, Copy)]
 pub struct GotValue {
     pub v: Value,
     pub next: Cursor,
@@ -112,7 +112,7 @@ pub fn get_value(s: &[u8], c: Cursor) -> GotValue
     GotValue { v, next }
 }
 
-#[derive(Drop)]
+#[derive(Clone, Copy)]
 pub struct GotValueList {
     pub v: [Value; 8],
     pub next: Cursor,
@@ -136,7 +136,7 @@ pub fn get_value_list(s: &[u8], c: Cursor, n: usize) -> GotValueList
     GotValueList { v, next: cur }
 }
 
-#[derive(Drop)]
+#[derive(Clone, Copy)]
 pub struct GotValues {
     pub v: Values,
     pub next: Cursor,

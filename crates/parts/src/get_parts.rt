@@ -36,7 +36,7 @@ pub fn get_u64_if(has: bool, s: &[u8], c: Cursor) -> Got64
     Got64 { v: 0, next: c }
 }
 
-#[derive(Drop)]
+#[derive(Clone, Copy)]
 pub struct GotSet {
     pub v: Set,
     pub next: Cursor,
@@ -77,7 +77,7 @@ pub fn get_set_if(has: bool, s: &[u8], c: Cursor) -> GotSet
     GotSet { v, next: c }
 }
 
-#[derive(Drop)]
+#[derive(Clone, Copy)]
 pub struct GotMaybeWord {
     pub v: MaybeWord,
     pub next: Cursor,
@@ -96,7 +96,7 @@ pub fn get_maybe_word(s: &[u8], c: Cursor) -> GotMaybeWord
     GotMaybeWord { v, next }
 }
 
-#[derive(Drop)]
+#[derive(Clone, Copy)]
 pub struct GotMaybeVote {
     pub v: MaybeVote,
     pub next: Cursor,
@@ -122,7 +122,7 @@ pub fn get_maybe_vote(s: &[u8], c: Cursor) -> GotMaybeVote
     GotMaybeVote { v, next }
 }
 
-#[derive(Drop)]
+#[derive(Clone, Copy)]
 pub struct GotPrepared {
     pub arrival: MaybeWord,
     pub accepted: MaybeVote,

@@ -7,7 +7,7 @@ use server::Server;
 use station::servers::drobulets_server_take;
 
 // What a message leaves: the answer, and the server after it.
-#[derive(Drop)]
+#[derive(Clone, Copy)]
 pub struct Exchanged {
     pub answer: Answer,
     pub server: Server,

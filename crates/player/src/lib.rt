@@ -9,7 +9,7 @@ mod looking; // looking.rt: what a record's data says
 pub mod chewing; // chewing.rt: a portion of the file is played
 
 // Where the walk stands: what is read, the file's byte order, the number of the next line, the record's seconds, how many bytes are still to come, and those kept.
-#[derive(Drop)]
+#[derive(Clone, Copy)]
 pub struct Walk {
     pub phase: u32,
     pub little: bool,
@@ -21,7 +21,7 @@ pub struct Walk {
 }
 
 // What a record's data says by itself. Where it is `fed`, the answer is still to come from the server `to`.
-#[derive(Drop)]
+#[derive(Clone, Copy)]
 pub struct Look {
     pub told: Told,
     pub fed: bool,
@@ -29,7 +29,7 @@ pub struct Look {
 }
 
 // The walk and its servers, and of the last portion how many bytes were taken, and how many bytes of lines were made.
-#[derive(Drop)]
+#[derive(Clone, Copy)]
 pub struct Play {
     pub walk: Walk,
     pub servers: [Server; 12],

@@ -5,7 +5,7 @@ pub mod log; // log.rt: the log's numbers as a word
 pub mod number; // number.rt: the record and the results of one number
 
 // What the log says by itself: its numbers, and whether it is a log.
-#[derive(Drop)]
+#[derive(Clone, Copy)]
 pub struct LogRead {
     pub word: u64,
     pub fine: bool,

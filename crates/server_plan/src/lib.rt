@@ -11,14 +11,14 @@ use server_run::gather::named;
 use server_run::running::{allowed, refusal_of};
 
 // What is to run: the numbers of the log after the runs from the place `first` on, at this shard.
-#[derive(Drop)]
+#[derive(Clone, Copy)]
 pub struct Plan {
     pub shard: u32,
     pub first: u32,
 }
 
 // The plan, and what is told: the refusal or 0, and how many numbers run.
-#[derive(Drop)]
+#[derive(Clone, Copy)]
 pub struct Planned {
     pub refusal: u32,
     pub many: u32,
@@ -27,7 +27,7 @@ pub struct Planned {
 }
 
 // What each number waits for, and which numbers are committed.
-#[derive(Drop)]
+#[derive(Clone, Copy)]
 pub struct Waiting {
     pub deps: [u64; 64],
     pub committed: u64,

@@ -8,7 +8,7 @@ use server_form::log::read_log;
 use server_form::number::number_formed;
 
 // The server's number and its shard, the log's word, and whether what was read keeps the form.
-#[derive(Drop)]
+#[derive(Clone, Copy)]
 pub struct Form {
     pub id: u32,
     pub shard: u32,

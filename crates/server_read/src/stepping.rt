@@ -14,7 +14,7 @@ use transaction::conflicts::keys_on;
 use wire::Message;
 
 // The numbers that came earlier, among those passed.
-#[derive(Drop)]
+#[derive(Clone, Copy)]
 pub struct Earlier {
     pub keys: Keys,
     pub shard: u32,
@@ -22,7 +22,7 @@ pub struct Earlier {
 }
 
 // The refusal or 0, among how many numbers the arrival set is looked for, and what is looked for.
-#[derive(Drop)]
+#[derive(Clone, Copy)]
 pub struct Asked {
     pub refusal: u32,
     pub many: usize,

@@ -10,7 +10,7 @@ use server::{Server, Wants};
 use server_run::gather::{named, set_without};
 
 // What the committed sets of the numbers passed name, and which of these are committed.
-#[derive(Drop)]
+#[derive(Clone, Copy)]
 pub struct Named {
     pub all: Set,
     pub committed: u64,

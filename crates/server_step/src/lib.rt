@@ -7,7 +7,7 @@ pub mod refusals; // refusals.rt: the tests, and which comes first
 pub mod record; // record.rt: the record of T, and who came earlier
 
 // What a step comes to: the refusal or 0, the place of the one record that it stores, that record as it becomes, and the reply.
-#[derive(Drop)]
+#[derive(Clone, Copy)]
 pub struct Considered {
     pub refusal: u32,
     pub place: usize,

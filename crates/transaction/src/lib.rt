@@ -1,5 +1,6 @@
 // A transaction's pieces: rule 2, the shards that they touch, and whether two have the same.
 #![tactic(auto)]
+
 ghost use Rattle.std.specs.Prelude.{◌≡◌, cond, ◌&&◌, ◌+◌, ◌<◌, ◌≤◌, ltb};
 ghost use Rattle.masks.specs.Bits.{insert};
 ghost use Rattle.rules.specs.Cluster.{NUMBERS, PIECES};

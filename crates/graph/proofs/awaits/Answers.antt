@@ -1,6 +1,5 @@
 -- `graph::awaits` meets its contract.
 -- Assumes nothing.
-use borrow.Author.Rules.{rules}
 use Rattle.graph.proofs.awaits.Goals as goal
 
 pub returns : goal.returns

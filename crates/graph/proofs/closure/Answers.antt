@@ -1,18 +1,17 @@
 -- `graph::closure` meets its contract: after k turns the rows are those of k passes, and `common` is part of each; within a pass the first t rows are done.
 -- Assumes nothing.
 use mathlib.Core.Path.{◌≡◌, refl, sym, ap, ◌∙◌}
-use mathlib.Core.Logic.{⊎_elim}
-use Prim.Native.Nat.{ℕ, ◌+◌, ◌-◌, ◌≤◌}
+use Prim.Native.Nat.{ℕ, ◌+◌}
 use native.Mathlib.Omega.{arith}
 use borrow.Author.Rules.{rules}
-use borrow.Author.Tests.{not-false}
 use borrow.Author.Count.{below_none}
 use lib.ListN.{get_or}
 use Rattle.graph.specs.Walk.{grown, passes, rows_of}
 use Rattle.graph.proofs.Arrays.{words, long}
-use Rattle.graph.proofs.Places.{upto, upto-none}
-use Rattle.graph.proofs.InPlace.{Shared, shared_more, Common, common_none, next_row, row_done, made, left}
+use Rattle.graph.proofs.Places.{upto-none}
+use Rattle.graph.proofs.InPlace.{shared_more, Common, common_none, next_row, row_done, made, left}
 use Rattle.graph.proofs.closure.Goals as goal
+use Rattle.graph.proofs.closure.Goals.{then-not-within+else-loop-t-test, else-not-within}
 
 pub loop-k-init : goal.loop-k-init
 unfolding passes
@@ -41,12 +40,14 @@ loop-k-preserved c =
     let k = c.loop-k.k in
     let rows = c.loop-k.rows in
     let same = c.loop-k.invariant.1 in
-    let size = long deps c.well-formed.0 in
+    let size = long deps c.well_formed.0 in
     let turn : (c.if-not-within.rows ≡ passes (k + 1) deps) × Common c.if-not-within.rows c.if-not-within.common 64 =
-    ⊎_elim
-    (λ x. rw (x.3, x.4) (made deps k rows same size x.1.t (omega (arith, x.1.inv.0, x.2.left)) x.1.common x.1.inv.2 x.1.rows x.1.inv.1))
-    (λ x. rw (x.1, x.2) (left deps k rows same size (words deps c.well-formed.0) c.loop-k.common c.loop-k.invariant.2 (sym c.within.ensures ∙ not-false _ x.0.left), c.loop-k.invariant.2))
-    c.if-not-within.branch in
+    elim c.if-not-within.branch [
+      | then-not-within+else-loop-t-test w ↦ rw (w.rows-is, w.common-is)
+          (made deps k rows same size w.loop-t.t (omega arith) w.loop-t.common w.loop-t.invariant.2 w.loop-t.rows w.loop-t.invariant.1)
+      | else-not-within w ↦ rw (w.rows-is, w.common-is)
+          (left deps k rows same size (words deps c.well_formed.0) c.loop-k.common c.loop-k.invariant.2 (sym c.within.ensures ∙ w.if-not-within.false), c.loop-k.invariant.2)
+    ] in
     (search rules, turn.0, turn.1)
 
 pub returns : goal.returns

@@ -1,17 +1,10 @@
 -- `graph::closure` meets its contract: after k turns the rows are those of k passes, and `common` is part of each; within a pass the first t rows are done.
 -- Assumes nothing.
-use mathlib.Core.Path.{◌≡◌, refl, sym, ap, ◌∙◌}
-use mathlib.Core.Logic.{⊎_elim}
-use Prim.Native.Nat.{ℕ, ◌+◌, ◌-◌, ◌≤◌}
-use native.Mathlib.Omega.{arith}
-use borrow.Author.Rules.{rules}
-use borrow.Author.Tests.{not-false}
-use borrow.Author.Count.{below_none}
-use lib.ListN.{get_or}
-use Rattle.graph.specs.Walk.{grown, passes, rows_of}
-use Rattle.graph.proofs.Arrays.{words, long}
-use Rattle.graph.proofs.Places.{upto, upto-none}
-use Rattle.graph.proofs.InPlace.{Shared, shared_more, Common, common_none, next_row, row_done, made, left}
+use mathlib.Core.Path.{◌≡◌}
+use Prim.Native.Nat.{◌-◌, ◌≤◌}
+use Rattle.graph.specs.Walk.{grown, passes}
+use Rattle.graph.proofs.Places.{upto}
+use Rattle.graph.proofs.InPlace.{Shared, Common}
 use Rattle.graph.proofs.closure.Given as goal
 
 abbrev pub invariant-loop-t : goal.invariant-loop-t

@@ -2,8 +2,6 @@
 -- Assumes nothing.
 use mathlib.Core.Path.{◌≡◌, sym, ap, ◌∙◌}
 use mathlib.Core.Bool.{false}
-use mathlib.Core.Logic.{⊎_elim}
-use Prim.Native.Nat.{ℕ, ◌-◌, ◌≤◌, ◌<◌}
 use native.Mathlib.Omega.{arith}
 use borrow.Author.Rules.{rules}
 use borrow.Author.Count.{below_none, below_more}
@@ -16,6 +14,7 @@ use Rattle.graph.proofs.Arrays.{words}
 use Rattle.graph.proofs.Waiting.{not-waiting, still-awaiting, nothing-awaited}
 use Rattle.graph.proofs.InWords.{walk-starts}
 use Rattle.graph.proofs.first_ready.Goals as goal
+use Rattle.graph.proofs.first_ready.Goals.{then-waits+else-u-eq64+then-awaits, else-waits}
 
 pub search-init : goal.search-init
 search-init c = (search rules, below_none _)
@@ -36,7 +35,7 @@ pub walk_from-u-requires : goal.walk_from-u-requires
 walk_from-u-requires c = omega arith
 
 pub loop-u-init : goal.loop-u-init
-loop-u-init c = walk-starts c.args.t1 c.args.ran c.search.t (omega arith) c.without.result c.without.ensures c.walk_from-u.result c.walk_from-u.ensures
+loop-u-init c = walk-starts c.args.rows c.args.ran c.search.t (omega arith) c.without.result c.without.ensures c.walk_from-u.result c.walk_from-u.ensures
 
 pub offset_bounds-rows-u : goal.offset_bounds-rows-u
 offset_bounds-rows-u c = omega arith
@@ -66,26 +65,28 @@ search-smaller c = omega arith
 pub search-preserved : goal.search-preserved
 unfolding awaited before
 search-preserved c =
-    let rows = c.args.t1 in
+    let rows = c.args.rows in
     let ran = c.args.ran in
     let t = c.search.t in
-    let word = words rows c.well-formed.0 t in
+    let word = words rows c.well_formed.0 t in
     let passed : ready rows c.args.committed ran t ≡ false =
-    ⊎_elim (λ x. still-awaiting rows _ t ran word (any_of (awaited rows ran t) 64 x.3.u (omega (arith, x.3.inv.0, x.4.left)) (sym x.5.ensures ∙ x.6.taken)))
-    (λ x. not-waiting rows _ t ran word (sym c.waits.ensures ∙ x.left)) c.if-waits.branch in
+    elim c.if-waits.branch [
+      | then-waits+else-u-eq64+then-awaits w ↦ still-awaiting rows _ t ran word (any_of (awaited rows ran t) 64 w.loop-u.u (omega arith) (sym w.awaits.ensures ∙ w.if-awaits.true))
+      | else-waits w ↦ not-waiting rows _ t ran word (sym c.waits.ensures ∙ w.if-waits.false)
+    ] in
     (omega arith, below_more _ _ c.search.invariant.1 passed)
 
 pub returns-then-t-eq64 : goal.returns-then-t-eq64
 unfolding first_ready
-returns-then-t-eq64 c = sym (least_all_no (ready c.args.t1 c.args.committed c.args.ran) 64 (λ k h. c.search.invariant.1 k (omega arith)))
+returns-then-t-eq64 c = sym (least_all_no (ready c.args.rows c.args.committed c.args.ran) 64 (λ k h. c.search.invariant.1 k (omega arith)))
 
 pub returns-then-u-eq64 : goal.returns-then-u-eq64
 unfolding first_ready
 returns-then-u-eq64 c =
-    let rows = c.args.t1 in
+    let rows = c.args.rows in
     let t = c.search.t in
     let end : c.loop-u.u ≡ 64 = c.if-u-eq64.true in
     sym (found_least (ready rows c.args.committed c.args.ran) 64 t (omega arith)
-    (nothing-awaited rows _ t _ (words rows c.well-formed.0 t) (sym c.waits.ensures ∙ c.if-waits.true)
+    (nothing-awaited rows _ t _ (words rows c.well_formed.0 t) (sym c.waits.ensures ∙ c.if-waits.true)
     (sym (ap (any_below (awaited rows c.args.ran t)) end) ∙ c.loop-u.invariant.1))
     c.search.invariant.1)

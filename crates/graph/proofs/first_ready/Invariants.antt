@@ -1,20 +1,10 @@
 -- `graph::first_ready` meets its contract: no number below t is ready, and t waits for none below u.
 -- Assumes nothing.
-use mathlib.Core.Path.{◌≡◌, sym, ap, ◌∙◌}
+use mathlib.Core.Path.{◌≡◌}
 use mathlib.Core.Bool.{false}
-use mathlib.Core.Logic.{⊎_elim}
 use Prim.Native.Nat.{ℕ, ◌-◌, ◌≤◌, ◌<◌}
-use native.Mathlib.Omega.{arith}
-use borrow.Author.Rules.{rules}
-use borrow.Author.Count.{below_none, below_more}
 use Rattle.masks.specs.Folds.{any_below}
-use Rattle.masks.proofs.Bools.{or_no}
-use Rattle.masks.proofs.Turns.{any_step}
-use Rattle.masks.proofs.FoldLaws.{any_of, found_least, least_all_no}
-use Rattle.graph.specs.Walk.{before, awaited, ready, first_ready}
-use Rattle.graph.proofs.Arrays.{words}
-use Rattle.graph.proofs.Waiting.{not-waiting, still-awaiting, nothing-awaited}
-use Rattle.graph.proofs.InWords.{walk-starts}
+use Rattle.graph.specs.Walk.{awaited, ready}
 use Rattle.graph.proofs.first_ready.Given as goal
 
 abbrev pub invariant-loop-u : goal.invariant-loop-u

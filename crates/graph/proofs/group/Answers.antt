@@ -1,7 +1,6 @@
 -- `graph::group` meets its contract: after u turns the word has those below u that t is before.
 -- Assumes nothing.
 use mathlib.Core.Path.{◌≡◌, ap, ◌∙◌}
-use Prim.Native.Nat.{◌-◌, ◌≤◌}
 use native.Mathlib.Omega.{arith}
 use borrow.Author.Rules.{rules}
 use Rattle.masks.specs.Folds.{mask_of}
@@ -20,8 +19,8 @@ loop-u-preserved c = (search rules, rw (mask_step, c.put-after.ensures, c.has.en
 
 pub returns : goal.returns
 returns c =
-    let rows = c.args.t1 in
+    let rows = c.args.rows in
     let t = c.args.t in
     let end : c.loop-u.u ≡ 64 = omega arith in
     let after = c.loop-u.invariant.1 ∙ ap (mask_of (before rows t)) end in
-    rw (c.insert.ensures, c.both.ensures, after) (group-word rows t (words rows c.well-formed.0 t) c.requires)
+    rw (c.insert.ensures, c.both.ensures, after) (group-word rows t (words rows c.well_formed.0 t) c.requires)

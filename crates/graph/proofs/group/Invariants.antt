@@ -1,14 +1,9 @@
 -- `graph::group` meets its contract: after u turns the word has those below u that t is before.
 -- Assumes nothing.
-use mathlib.Core.Path.{◌≡◌, ap, ◌∙◌}
+use mathlib.Core.Path.{◌≡◌}
 use Prim.Native.Nat.{◌-◌, ◌≤◌}
-use native.Mathlib.Omega.{arith}
-use borrow.Author.Rules.{rules}
 use Rattle.masks.specs.Folds.{mask_of}
-use Rattle.masks.proofs.Turns.{mask-none, mask_step}
 use Rattle.graph.specs.Walk.{before}
-use Rattle.graph.proofs.Arrays.{words}
-use Rattle.graph.proofs.InWords.{group-word}
 use Rattle.graph.proofs.group.Given as goal
 
 abbrev pub invariant-loop-u : goal.invariant-loop-u

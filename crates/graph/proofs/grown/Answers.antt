@@ -1,7 +1,6 @@
 -- `graph::grown` meets its contract.
 -- Assumes nothing.
 use Rattle.graph.specs.Walk.{grown}
-use borrow.Author.Rules.{rules}
 use Rattle.graph.proofs.grown.Goals as goal
 
 pub returns-then-has : goal.returns-then-has

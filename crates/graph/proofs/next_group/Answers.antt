@@ -4,7 +4,6 @@ use Prim.Native.Nat.{◌≤◌}
 use borrow.Author.Tests.{lt-ltb, le-ltb}
 use native.Mathlib.Omega.{arith}
 use Rattle.graph.specs.Walk.{group_at, next_group}
-use borrow.Author.Rules.{rules}
 use Rattle.graph.proofs.next_group.Goals as goal
 
 pub returns-then-t-lt64 : goal.returns-then-t-lt64

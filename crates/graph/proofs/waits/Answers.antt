@@ -1,6 +1,5 @@
 -- `graph::waits` meets its contract.
 -- Assumes nothing.
-use borrow.Author.Rules.{rules}
 use Rattle.graph.proofs.waits.Goals as goal
 
 pub returns : goal.returns

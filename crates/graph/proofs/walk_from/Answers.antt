@@ -1,6 +1,5 @@
 -- `graph::walk_from` meets its contract.
 -- Assumes nothing.
-use borrow.Author.Rules.{rules}
 use Rattle.graph.proofs.walk_from.Goals as goal
 
 pub returns-then-is_empty : goal.returns-then-is_empty

@@ -1,0 +1,6 @@
+-- `asks::accept` meets its contract. Assumes nothing.
+use borrow.Author.Rules.{rules}
+use Rattle.messages.proofs.asks.accept.Goals as goal
+
+pub returns : goal.returns
+returns c = rw c.plain-r.ensures

@@ -1,0 +1,6 @@
+-- `asks::prepare` meets its contract. Assumes nothing.
+use borrow.Author.Rules.{rules}
+use Rattle.messages.proofs.asks.prepare.Goals as goal
+
+pub returns : goal.returns
+returns c = rw c.plain-r.ensures

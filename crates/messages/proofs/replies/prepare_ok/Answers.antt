@@ -1,0 +1,6 @@
+-- `replies::prepare_ok` meets its contract. Assumes nothing.
+use borrow.Author.Rules.{rules}
+use Rattle.messages.proofs.replies.prepare_ok.Goals as goal
+
+pub returns : goal.returns
+returns c = rw c.plain-r.ensures

@@ -1,0 +1,13 @@
+-- `transaction::shards_of` meets its contract: the word holds the shards of the pieces passed. Assumes nothing.
+use Prim.Native.Nat.{◌-◌, ◌≤◌}
+use mathlib.Core.Path.{◌≡◌, ap, ◌∙◌}
+use native.Mathlib.Omega.{arith}
+use Rattle.rules.proofs.OnePass.{shards_passed, shards-none, shards-step, shards-all}
+use borrow.Author.Rules.{rules}
+use Rattle.transaction.proofs.shards_of.Given as goal
+
+abbrev pub invariant-loop-i : goal.invariant-loop-i
+invariant-loop-i l = (l.i ≤ 8) × (l.touched ≡ shards_passed l.ps l.i)
+
+abbrev pub decreases-loop-i : goal.decreases-loop-i
+decreases-loop-i l = 8 - l.i
