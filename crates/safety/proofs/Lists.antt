@@ -48,6 +48,7 @@ earlier_left m (later h) = later (earlier_left m h)
 
 -- of two different members one is earlier
 pub one_earlier : (l : List ℕ) (a b : ℕ) → a ≢ b → Memᴰ a l → Memᴰ b l → Earlier a b l ⊎ Earlier b a l
+one_earlier [] a b n x3 _ = elim x3 [ ]
 one_earlier (x ∷ l) a b n (Memᴰ.head e) (Memᴰ.head e') = absurd (n (e ∙ sym e'))
 one_earlier (x ∷ l) a b n (Memᴰ.head e) (Memᴰ.tail k) = inl (first e k)
 one_earlier (x ∷ l) a b n (Memᴰ.tail k) (Memᴰ.head e) = inr (first e k)
@@ -70,6 +71,7 @@ listed_in t (x ∷ l) e = go (or_yes (eqb t x) (listed t l) e) (listed_in t l)
 
 pub in_listed : (t : ℕ) (l : List ℕ) → Memᴰ t l → listed t l ≡ true
 unfolding listed
+in_listed t [] x' = elim x' [ ]
 in_listed t (x ∷ l) (Memᴰ.head e) = or_yes-l (eqb t x) (listed t l) (eq-eqb t x e)
 in_listed t (x ∷ l) (Memᴰ.tail k) = or_yes_r (eqb t x) (listed t l) (in_listed t l k)
 
@@ -137,6 +139,7 @@ firsts_old o (t ∷ l) u h = firsts_old (noting t o) l u (noted_old (noted t o) 
 
 pub firsts_new : (o l : List ℕ) (u : ℕ) → Memᴰ u l → Memᴰ u (firsts o l)
 unfolding firsts
+firsts_new o [] u x' = elim x' [ ]
 firsts_new o (t ∷ l) u (Memᴰ.head e) = firsts_old (noting t o) l u (subst (λ x. Memᴰ x (noting t o)) (sym e) (noted_new (noted t o)))
 firsts_new o (t ∷ l) u (Memᴰ.tail k) = firsts_new (noting t o) l u k
 

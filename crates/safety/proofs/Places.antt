@@ -18,6 +18,7 @@ place-mem (x ∷ l) d zero h = Memᴰ.head refl
 place-mem (x ∷ l) d (suc p) h = Memᴰ.tail (place-mem l d p (omega arith))
 
 pub mem-place : (l : List ℕ) (d t : ℕ) → Memᴰ t l → (p : ℕ) × (p < length l) × (get_or l p d ≡ t)
+mem-place [] d t x' = elim x' [ ]
 mem-place (x ∷ l) d t (Memᴰ.head e) = (0, omega arith, sym e)
 mem-place (x ∷ l) d t (Memᴰ.tail k) = let r = mem-place l d t k in let h = r.1 in (suc r.0, omega arith, r.2)
 
@@ -28,6 +29,7 @@ place-earlier (x ∷ l) d zero (suc q) h k = first refl (place-mem l d q (omega 
 place-earlier (x ∷ l) d (suc p) (suc q) h k = later (place-earlier l d p q (omega arith) (omega arith))
 
 pub earlier-places : (l : List ℕ) (d a b : ℕ) → Earlier a b l → (p : ℕ) × (q : ℕ) × (p < q) × (q < length l) × (get_or l p d ≡ a) × (get_or l q d ≡ b)
+earlier-places [] d a b x' = elim x' [ ]
 earlier-places (x ∷ l) d a b (first e k) = let r = mem-place l d b k in let h = r.1 in (0, suc r.0, omega arith, omega arith, sym e, r.2)
 earlier-places (x ∷ l) d a b (later h) = let r = earlier-places l d a b h in let i = r.2 in let j = r.3 in (suc r.0, suc r.1, omega arith, omega arith, r.4, r.5)
 
@@ -93,6 +95,7 @@ never t (x ∷ l) f = rw (ne_eqb t x (λ e. f (Memᴰ.head e))) (never t l (λ k
 
 once : (t : ℕ) (l : List ℕ) → (Earlier t t l → ⊥) → Memᴰ t l → times t l ≡ 1
 unfolding times
+once t [] f x'' = elim x'' [ ]
 once t (x ∷ l) f (Memᴰ.head e) = rw (eq-eqb t x e) (ap suc (never t l (λ k. f (first e k))))
 once t (x ∷ l) f (Memᴰ.tail k) = rw (ne_eqb t x (λ e. f (first e k))) (once t l (λ h. f (later h)) k)
 

@@ -150,6 +150,7 @@ may_take_lem i m e a = ltb-true i 12 (then_yes (asks m.code) (ltb i 12) e a)
 
 taken_is : (b : Taken) (l : List Taken) → Memᴰ b l → is_taken b l ≡ true
 unfolding is_taken
+taken_is b [] x' = elim x' [ ]
 taken_is b (x ∷ l) (Memᴰ.head e) = or_yes-l (eqb b.number x.number && eqb b.ballot x.ballot) (is_taken b l) (and_yes (eqb b.number x.number) (eqb b.ballot x.ballot) (eq-eqb b.number x.number (ap (λ (y : Taken). y.number) e)) (eq-eqb b.ballot x.ballot (ap (λ (y : Taken). y.ballot) e)))
 taken_is b (x ∷ l) (Memᴰ.tail k) = or_yes_r (eqb b.number x.number && eqb b.ballot x.ballot) (is_taken b l) (taken_is b l k)
 

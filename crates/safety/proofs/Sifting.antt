@@ -20,6 +20,7 @@ place (x ∷ l) t = cond (eqb t x) 0 (suc (place l t))
 
 pub earlier-place : (l : List ℕ) → ((t : ℕ) → Earlier t t l → ⊥) → (a b : ℕ) → Earlier a b l → place l a < place l b
 unfolding place
+earlier-place [] f a b x'' = elim x'' [ ]
 earlier-place (x ∷ l) f a b (first e k) =
     let n : b ≢ x = λ z. f x (first refl (subst (λ y. Memᴰ y l) z k)) in
     rw (eq-eqb a x e, ne_eqb b x n) (omega arith)
@@ -79,6 +80,7 @@ sift_from g (x ∷ l) a k = go (g x) refl k (sift_from g l a)
 
 pub sift_in : (g : ℕ → Bool) (l : List ℕ) (a : ℕ) → Memᴰ a l → g a ≡ true → Memᴰ a (sift g l)
 unfolding sift
+sift_in g [] a x'' h = elim x'' [ ]
 sift_in g (x ∷ l) a (Memᴰ.head e) h = subst (λ (b : Bool). Memᴰ a (cond b (x ∷ sift g l) (sift g l))) (sym (ap g (sym e) ∙ h)) (Memᴰ.head e)
 sift_in g (x ∷ l) a (Memᴰ.tail k) h = go (g x) (sift_in g l a k h)
   where
@@ -104,6 +106,7 @@ until t (x ∷ l) = cond (eqb x t) [] (x ∷ until t l)
 
 pub until_old : (t : ℕ) (l m : List ℕ) → Memᴰ t l → until t (l ++ m) ≡ until t l
 unfolding until
+until_old t [] m x' = elim x' [ ]
 until_old t (x ∷ l) m (Memᴰ.head e) = rw (eq-eqb x t (sym e)) refl
 until_old t (x ∷ l) m (Memᴰ.tail k) = ap (λ (z : List ℕ). cond (eqb x t) [] (x ∷ z)) (until_old t l m k)
 
@@ -153,5 +156,6 @@ until_from t (x ∷ l) a m k = go (eqb x t) refl k (until_from t l a)
 
 pub until_in : (t : ℕ) (l : List ℕ) (a : ℕ) → (Earlier t t l → ⊥) → Earlier a t l → Memᴰ a (until t l)
 unfolding until
+until_in t [] a n x'' = elim x'' [ ]
 until_in t (x ∷ l) a n (first e k) = subst (λ (b : Bool). Memᴰ a (cond b [] (x ∷ until t l))) (sym (ne_eqb x t (λ z. n (first (sym z) k)))) (Memᴰ.head e)
 until_in t (x ∷ l) a n (later h) = subst (λ (b : Bool). Memᴰ a (cond b [] (x ∷ until t l))) (sym (ne_eqb x t (λ z. n (first (sym z) (earlier_snd h))))) (Memᴰ.tail (until_in t l a (λ z. n (later z)) h))

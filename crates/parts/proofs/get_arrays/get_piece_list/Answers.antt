@@ -1,0 +1,36 @@
+-- The entries so far are read, and blank ones stand behind them. Assumes nothing.
+use mathlib.Core.Path.{◌≡◌, refl}
+use Prim.Native.Nat.{◌≤◌, ◌-◌}
+use native.Mathlib.Omega.{arith}
+use Rattle.xdr.specs.Array.{Filled, filled_more}
+use Rattle.rules.specs.Pieces.{no_piece}
+use Rattle.wire.specs.Parts.{piece}
+use Rattle.parts.proofs.get_arrays.get_piece_list.Goals as goal
+
+pub loop-i-init : goal.loop-i-init
+loop-i-init c = (omega arith, (refl, refl))
+
+pub get_piece-g-requires : goal.get_piece-g-requires
+get_piece-g-requires c = tt
+
+pub offset_bounds-v-i : goal.offset_bounds-v-i
+offset_bounds-v-i c = omega arith
+
+pub bounds-v-i : goal.bounds-v-i
+bounds-v-i c = omega arith
+
+pub overflow_add-i : goal.overflow_add-i
+overflow_add-i c = omega arith
+
+pub loop-i-smaller : goal.loop-i-smaller
+loop-i-smaller c = omega arith
+
+pub loop-i-preserved : goal.loop-i-preserved
+loop-i-preserved c =
+    let g = c.get_piece-g in
+    (omega arith, filled_more piece no_piece _ _ _ _ _ _ _ (omega arith) c.loop-i.invariant.1 g.ensures.value g.ensures.next)
+
+pub returns : goal.returns
+returns c =
+    let e : c.loop-i.i ≡ c.args.n = omega arith in
+    rw (← e) c.loop-i.invariant.1

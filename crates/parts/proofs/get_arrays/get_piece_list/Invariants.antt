@@ -1,0 +1,14 @@
+-- The entries so far are read, and blank ones stand behind them. Assumes nothing.
+use mathlib.Core.Path.{◌≡◌, refl}
+use Prim.Native.Nat.{◌≤◌, ◌-◌}
+use native.Mathlib.Omega.{arith}
+use Rattle.xdr.specs.Array.{Filled, filled_more}
+use Rattle.rules.specs.Pieces.{no_piece}
+use Rattle.wire.specs.Parts.{piece}
+use Rattle.parts.proofs.get_arrays.get_piece_list.Given as goal
+
+abbrev pub invariant-loop-i : goal.invariant-loop-i
+invariant-loop-i l = (l.i ≤ l.n) × Filled piece no_piece l.s l.initial.cur l.i l.v l.cur
+
+abbrev pub decreases-loop-i : goal.decreases-loop-i
+decreases-loop-i l = l.n - l.i
