@@ -26,8 +26,8 @@ loop-i-preserved c =
     let turn = c.loop-i in
     let start = c.args in
     let e = c.counted-many.ensures in
-    let here = eqb (piece_at start.t1 turn.i).shard start.k in
-    (search rules, search rules, search rules, search rules, rw e (at_most here turn.many turn.i turn.invariant.4), rw (count-step, on_counted start.t1 start.k turn.i (omega arith), ← turn.invariant.5) e)
+    let here = eqb (piece_at start.ps turn.i).shard start.k in
+    (search rules, search rules, search rules, search rules, rw e (at_most here turn.many turn.i turn.invariant.4), rw (count-step, on_counted start.ps start.k turn.i (omega arith), ← turn.invariant.5) e)
 
 pub returns : goal.returns
 returns c =

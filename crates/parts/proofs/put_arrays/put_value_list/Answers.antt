@@ -35,7 +35,7 @@ pub loop-i-preserved : goal.loop-i-preserved
 loop-i-preserved c =
     let l = c.loop-i in
     let q = c.put_value_if-a in
-    (omega arith, l.invariant.1, q.auto.0 ∙ l.invariant.2, entry-put value 8 value-length no_value c.args.v c.args.n (omega arith) c.args.at c.args.out.now c.requires.1 l.i l.invariant.3 q.ensures)
+    (omega arith, l.invariant.1, q.auto.out ∙ l.invariant.2, entry-put value 8 value-length no_value c.args.v c.args.n (omega arith) c.args.at c.args.out.now c.requires.1 l.i l.invariant.3 q.ensures)
 
 pub shape_of-out : goal.shape_of-out
 shape_of-out c = c.loop-i.invariant.2

@@ -20,4 +20,4 @@ put_set_if-requires c =
     omega (arith, maybe-vote-length v, bool_length (there v.some))
 
 pub returns : goal.returns
-returns c = maybe-vote-put _ _ c.args.v c.requires c.put_bool_at-a.ensures c.put_u32_if-b.ensures c.put_set_if.ensures c.put_bool_at-a.auto.0
+returns c = maybe-vote-put _ _ c.args.v c.requires c.put_bool_at-a.ensures c.put_u32_if-b.ensures c.put_set_if.ensures c.put_bool_at-a.auto.out

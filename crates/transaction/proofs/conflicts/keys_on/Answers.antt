@@ -23,7 +23,7 @@ pub loop-i-preserved : goal.loop-i-preserved
 loop-i-preserved c =
     let turn = c.loop-i in
     let start = c.args in
-    let on = on_counted start.t1 start.k turn.i (omega arith) in
+    let on = on_counted start.ps start.k turn.i (omega arith) in
     (search rules, search rules, search rules, search rules, rw (keys_step, on, ← turn.invariant.4) c.put_below-all.ensures, rw (written_step, on, ← turn.invariant.5) c.put_below-written.ensures)
 
 pub returns : goal.returns
