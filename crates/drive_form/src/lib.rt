@@ -1,5 +1,6 @@
 // The state form of a drive, and whether its counted answers decide.
 #![tactic(auto)]
+
 ghost use Rattle.std.specs.Prelude.{◌≡◌, ◌<◌};
 ghost use Rattle.drive.specs.Form.{formed};
 ghost use Rattle.drive_form.specs.Parts.{numbers_kept, ballots_kept, head_kept, set_kept, at_first, further, walked_to, answers_kept, formed_by};

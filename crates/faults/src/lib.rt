@@ -1,5 +1,6 @@
 // What is wrong with a message by itself, by refusals 12, 1, 2 and 3, in the fields that its code has: the tests of a server. A drive has its own, by the kind of reply.
 #![tactic(auto)]
+
 ghost use Rattle.std.specs.Prelude.{◌≡◌, ◌&&◌};
 ghost use Rattle.rules.specs.Sets.{bad_set};
 ghost use Rattle.wire.specs.Faults.{over_count, bad_numbers, bad_pieces, bad_sets};

@@ -13,7 +13,7 @@ put_u32_at-a-requires c =
     let a = c.args in
     let t = c.if-has.true in
     let n = c.requires.count_bound t in
-    let l = sym (length-map a.v.list _) ∙ c.well_formed.1.1.1.0.1.1.0.1.0.1 in
+    let l = c.well_formed.1.1.1.0.1.1.0.1.0.1 in
     let h = pieces_room a.at a.v a.out.now n l (rw t at c.requires.v_in_bounds) in
     omega arith
 
@@ -22,7 +22,7 @@ put_piece_list-requires c =
     let a = c.args in
     let t = c.if-has.true in
     let n = c.requires.count_bound t in
-    let l = sym (length-map a.v.list _) ∙ c.well_formed.1.1.1.0.1.1.0.1.0.1 in
+    let l = c.well_formed.1.1.1.0.1.1.0.1.0.1 in
     let h = pieces_room a.at a.v a.out.now n l (rw t at c.requires.v_in_bounds) in
     let e = put_by (be-length 4 _) c.put_u32_at-a.ensures in
     (n, omega arith)
@@ -32,7 +32,7 @@ returns-then-has c =
     let a = c.args in
     let t = c.if-has.true in
     let n = c.requires.count_bound t in
-    let l = sym (length-map a.v.list _) ∙ c.well_formed.1.1.1.0.1.1.0.1.0.1 in
+    let l = c.well_formed.1.1.1.0.1.1.0.1.0.1 in
     let h = pieces_room a.at a.v a.out.now n l (rw t at c.requires.v_in_bounds) in
     rw t (pieces-put a.at a.v a.out.now n l (omega arith) c.put_u32_at-a.ensures c.put_piece_list.ensures)
 

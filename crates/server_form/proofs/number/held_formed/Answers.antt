@@ -1,0 +1,8 @@
+-- `number::held_formed` meets its contract. Assumes nothing.
+use Rattle.server_form.specs.OnePass.{held_formed}
+use borrow.Author.Rules.{rules}
+use Rattle.server_form.proofs.number.held_formed.Goals as goal
+
+pub returns : goal.returns
+unfolding held_formed
+returns c = rw (c.ran_formed.ensures, c.sets_kept.ensures, c.bad_ballot.ensures, c.is_empty.ensures, c.has-logged.ensures, c.touched-touched.ensures)
