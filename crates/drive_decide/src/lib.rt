@@ -1,5 +1,6 @@
 // What the counted answers of a drive say, and what each phase decides by them.
 #![tactic(auto)]
+
 ghost use Rattle.std.specs.Prelude.{◌≡◌};
 ghost use Rattle.drive.specs.Held.{no_answer};
 ghost use Rattle.drive.specs.Decide.{all_answered};

@@ -1,5 +1,6 @@
 // Which refusal a reply gets: the first test that fires gives its number, 0 is none. Each code has the tests of the fields that it has.
 #![tactic(auto)]
+
 ghost use Rattle.std.specs.Prelude.{◌≡◌};
 ghost use Rattle.drive_refusals.specs.Refusals.{bad_head, elsewhere, bad_held, first_of_three, done_by, judged_by, first_of};
 

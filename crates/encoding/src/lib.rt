@@ -1,5 +1,6 @@
 // A message, built by its sections in a cleared buffer, each in the part after the last, and then copied to the output. What is refused is known before.
 #![tactic(auto)]
+
 ghost use Rattle.std.specs.Prelude.{◌≡◌, false, ◌&&◌, ◌+◌, ◌*◌, ◌≤◌, ltb, length, take};
 ghost use Rattle.xdr.specs.Over.{over, Put};
 ghost use Rattle.xdr.proofs.Windows.{cost};

@@ -1,5 +1,6 @@
 // The parts of a server's step that read one record: the refusals in their order, then what the message does to the record of its T.
 #![tactic(auto)]
+
 use server::Record;
 use wire::Message;
 

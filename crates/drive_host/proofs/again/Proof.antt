@@ -8,7 +8,7 @@ use lib.Dec.{eqb}
 use borrow.Author.Rules.{rules}
 use Rattle.drive.specs.Host.{again_refusal, again}
 use Rattle.drive.specs.Held.{began}
-use Rattle.drive_host.proofs.Unless.{taken, not_taken, last_of_three}
+use Rattle.drive_host.proofs.Unless.{taken, not_taken_lem, last_of_three}
 use Rattle.rules.proofs.NextIsSmallest.{not-past}
 use Rattle.drive_host.proofs.again.Statement.{statement}
 use Rattle.drive_host.proofs.again.Tie as tie
@@ -40,7 +40,7 @@ returns c = let is : c.before.before.before.again-refusal.result ≡ again_refus
 
 returns-2 : tie.Need-returns-2
 unfolding again again_refusal
-returns-2 c = let is : c.before.again-refusal.result ≡ again_refusal c.before.before.before.before.before.before.args.d = rw (c.before.again-refusal.ensures, c.before.before.no-next.ensures, c.before.before.before.before.before.higher.ensures, c.before.before.before.before.formed.ensures) in not_taken c.before.before.before.before.before.before.args.d _ is c.if1.false
+returns-2 c = let is : c.before.again-refusal.result ≡ again_refusal c.before.before.before.before.before.before.args.d = rw (c.before.again-refusal.ensures, c.before.before.no-next.ensures, c.before.before.before.before.before.higher.ensures, c.before.before.before.before.formed.ensures) in not_taken_lem c.before.before.before.before.before.before.args.d _ is c.if1.false
 
 pub again_spec : {M : Type 1} → statement M
 again_spec =

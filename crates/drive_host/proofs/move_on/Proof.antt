@@ -3,7 +3,7 @@ use mathlib.Core.Path.{◌≡◌, sym, ◌∙◌}
 use borrow.Author.Rules.{rules}
 use borrow.Author.Tests.{eqb-true}
 use Rattle.drive.specs.Host.{move_on_refusal, move_on}
-use Rattle.drive_host.proofs.Unless.{taken, not_taken}
+use Rattle.drive_host.proofs.Unless.{taken, not_taken_lem}
 use Rattle.drive_host.proofs.MovingOn.{move-on-by, moving-touched}
 use Rattle.drive_form.specs.Parts.{walked_to}
 use Rattle.drive_form.proofs.Parts.{formed-by, all-answered}
@@ -51,7 +51,7 @@ returns c = rw (c.turned.ensures, c.before.decide.ensures, turned-decide c.befor
 
 returns-2 : tie.Need-returns-2
 unfolding move_on
-returns-2 c = not_taken c.before.before.before.before.before.before.before.args.d _ (no-is c.before) c.if1.false
+returns-2 c = not_taken_lem c.before.before.before.before.before.before.before.args.d _ (no-is c.before) c.if1.false
 
 pub move_on_spec : {M : Type 1} → statement M
 move_on_spec =

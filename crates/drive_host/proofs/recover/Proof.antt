@@ -7,7 +7,7 @@ use borrow.Author.Tests.{eqb-true}
 use borrow.Author.Rules.{rules}
 use Rattle.drive.specs.Host.{recover_refusal, recover}
 use Rattle.drive.specs.Held.{began}
-use Rattle.drive_host.proofs.Unless.{taken, not_taken, last_of_four}
+use Rattle.drive_host.proofs.Unless.{taken, not_taken_lem, last_of_four}
 use Rattle.rules.specs.Ballots.{no_next}
 use Rattle.rules.proofs.NextIsSmallest.{not-past}
 use Rattle.rules.specs.Cluster.{bad_coordinator, bad_number}
@@ -34,7 +34,7 @@ returns c = rw (c.began.ensures, c.before.next-above.ensures) (taken c.before.be
 
 returns-2 : tie.Need-returns-2
 unfolding recover
-returns-2 c = not_taken c.before.before.args.d _ c.before.recover-refusal.ensures c.if1.false
+returns-2 c = not_taken_lem c.before.before.args.d _ c.before.recover-refusal.ensures c.if1.false
 
 pub recover_spec : {M : Type 1} → statement M
 recover_spec =

@@ -1,0 +1,14 @@
+-- `drive_decide::decide1` meets its contract: by its tests. Assumes nothing.
+use mathlib.Core.Path.{◌≡◌}
+use mathlib.Core.Bool.{true, false, ◌&&◌}
+use borrow.Author.Rules.{rules}
+use Rattle.drive_decide.specs.Turns.{turn1}
+use Rattle.drive_decide.proofs.decide1.Goals as goal
+
+pub returns-then-fast : goal.returns-then-fast
+unfolding turn1
+returns-then-fast c = let h : (c.args.first && c.args.all && c.args.equal) ≡ true = c.if-fast.true in rw (c.to.ensures, h)
+
+pub returns : goal.returns
+unfolding turn1
+returns c = let h : (c.args.first && c.args.all && c.args.equal) ≡ false = c.if-fast.false in rw (c.to-2.ensures, h)

@@ -1,0 +1,7 @@
+-- `drive_decide::words::of_drive` meets its contract: shard by shard. Assumes nothing.
+use Rattle.drive_decide.proofs.Wording.{words-four}
+use borrow.Author.Rules.{rules}
+use Rattle.drive_decide.proofs.words.of_drive.Goals as goal
+
+pub returns : goal.returns
+returns c = rw (c.in_all.ensures, c.in_shard-k3.ensures, c.in_shard-k2.ensures, c.in_shard-k1.ensures, c.in_shard-k0.ensures) (words-four _)
