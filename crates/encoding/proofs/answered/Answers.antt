@@ -124,7 +124,7 @@ put_values_if-requires c =
     let p₂ = section-put ss 0 cleared room 1 (lit< tt) p₁ c.put_front-b.ensures in
     let p₃ = section-put ss 0 cleared room 2 (lit< tt) p₂ c.put_u64_if-c.ensures in
     let p₄ = section-put ss 0 cleared room 3 (lit< tt) p₃ c.put_prepared_if-d.ensures in
-    (section-room ss 0 cleared room 4 (lit< tt) p₄, λ g. ltb-false 8 a.values.count (rw g at few))
+    record { v_in_bounds = section-room ss 0 cleared room 4 (lit< tt) p₄; count_bound = λ g. ltb-false 8 a.values.count (rw g at few) }
 
 pub copy_front-requires : goal.copy_front-requires
 copy_front-requires c =

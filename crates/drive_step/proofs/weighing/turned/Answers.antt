@@ -1,0 +1,6 @@
+
+use borrow.Author.Rules.{rules}
+use Rattle.drive_step.proofs.weighing.turned.Goals as goal
+
+pub returns : goal.returns
+returns c = rw c.no_answer-none.ensures
