@@ -1,5 +1,6 @@
 // The bytes of a message, written and read.
 #![tactic(auto)]
+
 ghost use Rattle.std.specs.Prelude.{◌≡◌, true};
 ghost use Rattle.wire.specs.Bytes.{decode};
 ghost use Rattle.wire.specs.Encoding.{encode};

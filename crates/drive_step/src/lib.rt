@@ -1,5 +1,6 @@
 // A reply to a drive: the refusals in their order, then the change.
 #![tactic(auto)]
+
 ghost use Rattle.std.specs.Prelude.{◌≡◌, max};
 ghost use Rattle.drive.specs.Hear.{answer_of, hear};
 ghost use Rattle.drive_step.specs.Weighing.{weighed};

@@ -1,0 +1,9 @@
+-- What is exact is read at once; the rest by sections. Assumes nothing.
+use borrow.Author.Rules.{rules}
+use Rattle.codec.proofs.decode.Goals as goal
+
+pub read_asked-requires : goal.read_asked-requires
+read_asked-requires c = c.see_asked-a.ensures c.if-a.true
+
+pub read_answered-requires : goal.read_answered-requires
+read_answered-requires c = c.see_answered-b.ensures c.if-b.true

@@ -1,0 +1,7 @@
+-- Five readers in a row read the front. Assumes nothing.
+use Rattle.codec.proofs.ReadWhole.{front_read}
+use borrow.Author.Rules.{rules}
+use Rattle.codec.proofs.decoding.get_front.Goals as goal
+
+pub returns : goal.returns
+returns c = front_read _ _ _ c.get_u32-t.ensures c.get_u32_if-server.ensures c.get_u32_if-ballot.ensures c.get_u32_if-promise.ensures c.get_u32_if-ran.ensures

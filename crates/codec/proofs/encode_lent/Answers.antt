@@ -1,0 +1,21 @@
+-- Two kinds of messages are sent by their sections. Assumes nothing.
+use mathlib.Core.Path.{sym, ap, ◌∙◌}
+use Rattle.wire.specs.Encoding.{Encoding}
+use Rattle.encoding.specs.Answers.{answer}
+use Rattle.encoding.proofs.EncodeWhole.{encode-bare, encode-asked}
+use borrow.Author.Rules.{rules}
+use Rattle.codec.proofs.encode_lent.Goals as goal
+
+pub returns-then-bare : goal.returns-then-bare
+returns-then-bare c =
+    let a = c.args in
+    let e = encode-bare a.message a.out.now (sym c.bare.ensures ∙ c.if-bare.true) in
+    let q = c.bare-then-bare.ensures in
+    (q.0 ∙ ap answer e, q.1 ∙ ap (λ (x : Encoding). x.buffer) e)
+
+pub returns-then-asked : goal.returns-then-asked
+returns-then-asked c =
+    let a = c.args in
+    let e = encode-asked a.message a.out.now (sym c.bare.ensures ∙ c.if-bare.false) (sym c.asked.ensures ∙ c.if-asked.true) in
+    let q = c.asked-then-asked.ensures in
+    (q.0 ∙ ap answer e, q.1 ∙ ap (λ (x : Encoding). x.buffer) e)

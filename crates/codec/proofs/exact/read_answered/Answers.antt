@@ -1,0 +1,50 @@
+-- The words are the message. Assumes nothing.
+use native.Mathlib.Omega.{arith}
+use Rattle.codec.proofs.ReadExact.{answered-decoded}
+use borrow.Author.Rules.{rules}
+use Rattle.codec.proofs.exact.read_answered.Goals as goal
+
+pub word_if-ballot-requires : goal.word_if-ballot-requires
+word_if-ballot-requires c =
+    let x = c.requires in
+    let s = c.answered_shape-h.ensures in
+    let long = x.exact in
+    rw s (omega arith)
+
+pub word_if-promise-requires : goal.word_if-promise-requires
+word_if-promise-requires c =
+    let x = c.requires in
+    let s = c.answered_shape-h.ensures in
+    let long = x.exact in
+    let b = rw s at c.cost-b.ensures.0 in
+    rw s (omega arith)
+
+pub word_if-ran-requires : goal.word_if-ran-requires
+word_if-ran-requires c =
+    let x = c.requires in
+    let s = c.answered_shape-h.ensures in
+    let long = x.exact in
+    let b = rw s at c.cost-b.ensures.0 in
+    let p = rw s at c.cost.ensures.0 in
+    rw s (omega arith)
+
+pub hyper_if-word-requires : goal.hyper_if-word-requires
+hyper_if-word-requires c =
+    let x = c.requires in
+    let s = c.answered_shape-h.ensures in
+    let long = x.exact in
+    let b = rw s at c.cost-b.ensures.0 in
+    let p = rw s at c.cost.ensures.0 in
+    let n = rw s at c.cost-2.ensures.0 in
+    rw s (omega arith)
+
+pub returns : goal.returns
+returns c =
+    let x = c.requires in
+    let s = c.answered_shape-h.ensures in
+    let long = x.exact in
+    let b = rw s at c.cost-b.ensures.0 in
+    let p = rw s at c.cost.ensures.0 in
+    let n = rw s at c.cost-2.ensures.0 in
+    let d = answered-decoded _ x c.word_at-t.ensures c.word_at-server.ensures (rw s at c.word_if-ballot.ensures) (rw (s, b) at c.word_if-promise.ensures) (rw (s, b, p) at c.word_if-ran.ensures) (rw (s, b, p, n) at c.hyper_if-word.ensures) in
+    rw c.plain-message.ensures d
