@@ -17,59 +17,7 @@ use Rattle.drive_refusals.proofs.InOrder.{refusal_is, taken-touched, ok_place}
 use Rattle.drive_step.proofs.Counting.{answer_counts, decided-after, answered-after}
 use Rattle.drive_step.proofs.Outcomes.{not_there, refused-weighs, done-weighs, behind-weighs, waiting-weighs, deciding-weighs}
 use Rattle.drive_step.proofs.weigh.Goals as goal
-
--- the answers are twelve
-full : (c : goal.Start invariant-loop decreases-loop) → length c.args.d.answers ≡ 12
-full c = sym (length-map c.args.d.answers _) ∙ c.well_formed.0.1.1.1.1.1.1.1.0.1.0.1
-
--- all answers are walked
-walked : (c : goal.After-loop-i invariant-loop decreases-loop) → c.loop-i.l ≡ walked_to c.args.d c.touched-shards.result 12
-walked c = c.loop-i.invariant.1 ∙ ap (walked_to _ _) (omega arith)
-
--- the number that is found is the refusal
-no-is : (c : goal.After-first_of-no invariant-loop decreases-loop) → c.first_of-no.result ≡ refusal c.args.d c.args.m
-unfolding formed_by
-no-is c =
-    refusal_is c.args.d (full c.before.before.before.before.before.before.before.before.before.before.before.before.before) c.args.m c.touched-shards.ensures (walked c.before.before.before.before.before.before.before.before)
-    (rw (c.set_formed.ensures, c.answers_formed.ensures, c.head_formed.ensures))
-    c.judge-judged.ensures c.first_of-no.ensures
-
--- a reply that is taken is not refused
-not-refused : (c : goal.Else-refused invariant-loop decreases-loop) → refusal c.args.d c.args.m ≡ 0
-not-refused c = sym (no-is c.before) ∙ not_there c.first_of-no.result c.if-refused.false-raw
-
-touches : (c : goal.Else-refused invariant-loop decreases-loop) → c.touched-shards.result ≡ touched c.args.d
-touches c = c.touched-shards.ensures ∙ taken-touched c.args.d c.args.m (not-refused c)
-
--- the server of a reply that is no Done is one of the twelve
-server_lt : (c : goal.Else-done invariant-loop decreases-loop) → c.args.m.server < 12
-server_lt c = ok_place c.args.d c.args.m (not-refused c.before.before.before) c.if-done.false-raw
-
--- whether the answers decide with this one
-decided-is : (c : goal.After-decided-enough invariant-loop decreases-loop) → c.decided-enough.result ≡ decided (with_answer c.args.d c.args.m.server (answer_of c.args.m))
-unfolding walked_to
-decided-is c =
-    rw (c.decided-enough.ensures, c.insert-answered.ensures, walked c.before.before.before.before.before.before.before.before.before.before.before.before.before.before.before.before.before, touches c.before.before.before.before.before.before.before.before)
-    (decided-after c.args.d (full c.before.before.before.before.before.before.before.before.before.before.before.before.before.before.before.before.before.before.before.before.before.before) c.args.m.server (server_lt c.before.before.before.before.before) (answer_of c.args.m) (answer_counts c.args.m))
-
--- what is decided
-words_are : (c : goal.After-choose-turn invariant-loop decreases-loop) → c.in_all-words.result ≡ words_of (with_answer c.args.d c.args.m.server c.answer_of-a.result)
-words_are c =
-    rw (c.in_all-words.ensures, c.in_shard-k3.ensures, c.in_shard-k2.ensures, c.in_shard-k1.ensures, c.in_shard-k0.ensures)
-    (words-four (with_answer c.args.d c.args.m.server c.answer_of-a.result))
-
-all_are : (c : goal.After-choose-turn invariant-loop decreases-loop) → c.all_answered-all.result ≡ all_answered (with_answer c.args.d c.args.m.server c.answer_of-a.result)
-unfolding walked_to
-all_are c =
-    rw (c.all_answered-all.ensures, c.insert-answered.ensures, walked c.before.before.before.before.before.before.before.before.before.before.before.before.before.before.before.before.before.before.before.before.before.before.before.before.before.before.before.before.before.before.before.before.before.before.before.before.before.before.before.before, touches c.before.before.before.before.before.before.before.before.before.before.before.before.before.before.before.before.before.before.before.before.before.before.before.before.before.before.before.before.before.before.before)
-    (answered-after c.args.d (full c.before.before.before.before.before.before.before.before.before.before.before.before.before.before.before.before.before.before.before.before.before.before.before.before.before.before.before.before.before.before.before.before.before.before.before.before.before.before.before.before.before.before.before.before.before) c.args.m.server (server_lt c.before.before.before.before.before.before.before.before.before.before.before.before.before.before.before.before.before.before.before.before.before.before.before.before.before.before.before.before) c.answer_of-a.result (rw c.answer_of-a.ensures (answer_counts c.args.m)))
-
-turn_is : (c : goal.After-choose-turn invariant-loop decreases-loop) → c.choose-turn.result ≡ turn_of (with_answer c.args.d c.args.m.server c.answer_of-a.result)
-turn_is c =
-    ⊎_elim
-    (λ w. turn-early (with_answer c.args.d c.args.m.server c.answer_of-a.result) c.if-preparing.vote (all_are c) (w.2 ∙ w.1.ensures) (words_are c) c.choose-turn.ensures)
-    (λ w. turn-late (with_answer c.args.d c.args.m.server c.answer_of-a.result) c.if-preparing.vote w.0.left (all_are c) (words_are c) c.choose-turn.ensures)
-    c.if-preparing.branch
+use Rattle.drive_step.proofs.weigh.Goals.{then-preparing, else-preparing}
 
 pub loop-i-init : goal.loop-i-init
 loop-i-init c = (search rules, c.at_first-l.ensures ∙ walked-first _ _)
@@ -78,25 +26,116 @@ pub loop-i-preserved : goal.loop-i-preserved
 loop-i-preserved c = (search rules, rw (c.further-l.ensures, walked_further, c.loop-i.invariant.1))
 
 pub returns-then-refused : goal.returns-then-refused
-returns-then-refused c = c.untaken.ensures ∙ refused-weighs c.args.d c.args.m (no-is c.before.before) c.if-refused.true-raw
+unfolding formed_by
+returns-then-refused c =
+    let full : length c.args.d.answers ≡ 12 = c.well_formed.0.1.1.1.1.1.1.1.0.1.0.1 in
+    let walked : c.loop-i.l ≡ walked_to c.args.d c.touched-shards.result 12 = c.loop-i.invariant.1 ∙ ap (walked_to c.args.d c.touched-shards.result) (omega arith) in
+    let no-is : c.first_of-no.result ≡ refusal c.args.d c.args.m =
+    refusal_is c.args.d full c.args.m c.touched-shards.ensures walked
+    (rw (c.set_formed.ensures, c.answers_formed.ensures, c.head_formed.ensures))
+    c.judge-judged.ensures c.first_of-no.ensures in
+    c.untaken.ensures ∙ refused-weighs c.args.d c.args.m no-is c.if-refused.true-raw
 
 pub returns-then-done : goal.returns-then-done
-returns-then-done c = c.turning.ensures ∙ done-weighs c.args.d c.args.m (no-is c.before.before.before.before.before.before.before) c.if-refused.false-raw c.if-done.true-raw
+unfolding formed_by
+returns-then-done c =
+    let full : length c.args.d.answers ≡ 12 = c.well_formed.0.1.1.1.1.1.1.1.0.1.0.1 in
+    let walked : c.loop-i.l ≡ walked_to c.args.d c.touched-shards.result 12 = c.loop-i.invariant.1 ∙ ap (walked_to c.args.d c.touched-shards.result) (omega arith) in
+    let no-is : c.first_of-no.result ≡ refusal c.args.d c.args.m =
+    refusal_is c.args.d full c.args.m c.touched-shards.ensures walked
+    (rw (c.set_formed.ensures, c.answers_formed.ensures, c.head_formed.ensures))
+    c.judge-judged.ensures c.first_of-no.ensures in
+    c.turning.ensures ∙ done-weighs c.args.d c.args.m no-is c.if-refused.false-raw c.if-done.true-raw
 
 pub bounds-n-s : goal.bounds-n-s
-bounds-n-s c = server_lt c.before.before
+unfolding formed_by
+bounds-n-s c =
+    let full : length c.args.d.answers ≡ 12 = c.well_formed.0.1.1.1.1.1.1.1.0.1.0.1 in
+    let walked : c.loop-i.l ≡ walked_to c.args.d c.touched-shards.result 12 = c.loop-i.invariant.1 ∙ ap (walked_to c.args.d c.touched-shards.result) (omega arith) in
+    let no-is : c.first_of-no.result ≡ refusal c.args.d c.args.m =
+    refusal_is c.args.d full c.args.m c.touched-shards.ensures walked
+    (rw (c.set_formed.ensures, c.answers_formed.ensures, c.head_formed.ensures))
+    c.judge-judged.ensures c.first_of-no.ensures in
+    let taken : refusal c.args.d c.args.m ≡ 0 = sym no-is ∙ not_there c.first_of-no.result c.if-refused.false-raw in
+    ok_place c.args.d c.args.m taken c.if-done.false-raw
 
 pub returns-then-behind : goal.returns-then-behind
-returns-then-behind c = rw (c.keeping.ensures, c.higher.ensures) (behind-weighs c.args.d c.args.m (no-is c.before.before.before.before.before.before.before.before.before) c.if-refused.false-raw c.if-done.false-raw c.if-behind.true-raw)
+unfolding formed_by
+returns-then-behind c =
+    let full : length c.args.d.answers ≡ 12 = c.well_formed.0.1.1.1.1.1.1.1.0.1.0.1 in
+    let walked : c.loop-i.l ≡ walked_to c.args.d c.touched-shards.result 12 = c.loop-i.invariant.1 ∙ ap (walked_to c.args.d c.touched-shards.result) (omega arith) in
+    let no-is : c.first_of-no.result ≡ refusal c.args.d c.args.m =
+    refusal_is c.args.d full c.args.m c.touched-shards.ensures walked
+    (rw (c.set_formed.ensures, c.answers_formed.ensures, c.head_formed.ensures))
+    c.judge-judged.ensures c.first_of-no.ensures in
+    rw (c.keeping.ensures, c.higher.ensures) (behind-weighs c.args.d c.args.m no-is c.if-refused.false-raw c.if-done.false-raw c.if-behind.true-raw)
 
 pub bounds-n-s-2 : goal.bounds-n-s-2
-bounds-n-s-2 c = server_lt c.before.before.before
+unfolding formed_by
+bounds-n-s-2 c =
+    let full : length c.args.d.answers ≡ 12 = c.well_formed.0.1.1.1.1.1.1.1.0.1.0.1 in
+    let walked : c.loop-i.l ≡ walked_to c.args.d c.touched-shards.result 12 = c.loop-i.invariant.1 ∙ ap (walked_to c.args.d c.touched-shards.result) (omega arith) in
+    let no-is : c.first_of-no.result ≡ refusal c.args.d c.args.m =
+    refusal_is c.args.d full c.args.m c.touched-shards.ensures walked
+    (rw (c.set_formed.ensures, c.answers_formed.ensures, c.head_formed.ensures))
+    c.judge-judged.ensures c.first_of-no.ensures in
+    let taken : refusal c.args.d c.args.m ≡ 0 = sym no-is ∙ not_there c.first_of-no.result c.if-refused.false-raw in
+    ok_place c.args.d c.args.m taken c.if-done.false-raw
 
 pub insert-answered-requires : goal.insert-answered-requires
-insert-answered-requires c = let h = server_lt c.before.before.before in omega arith
+unfolding formed_by
+insert-answered-requires c =
+    let full : length c.args.d.answers ≡ 12 = c.well_formed.0.1.1.1.1.1.1.1.0.1.0.1 in
+    let walked : c.loop-i.l ≡ walked_to c.args.d c.touched-shards.result 12 = c.loop-i.invariant.1 ∙ ap (walked_to c.args.d c.touched-shards.result) (omega arith) in
+    let no-is : c.first_of-no.result ≡ refusal c.args.d c.args.m =
+    refusal_is c.args.d full c.args.m c.touched-shards.ensures walked
+    (rw (c.set_formed.ensures, c.answers_formed.ensures, c.head_formed.ensures))
+    c.judge-judged.ensures c.first_of-no.ensures in
+    let taken : refusal c.args.d c.args.m ≡ 0 = sym no-is ∙ not_there c.first_of-no.result c.if-refused.false-raw in
+    let lt : c.args.m.server < 12 = ok_place c.args.d c.args.m taken c.if-done.false-raw in
+    omega arith
 
 pub returns-then-enough : goal.returns-then-enough
-returns-then-enough c = rw (c.turning-then-enough.ensures, turn_is c.before.before, c.answer_of-a.ensures) (deciding-weighs c.args.d c.args.m (no-is c.before.before.before.before.before.before.before.before.before.before.before.before.before.before.before.before.before.before.before.before.before.before.before.before.before.before.before.before.before.before.before.before.before.before) c.if-refused.false-raw c.if-done.false-raw c.if-behind.false-raw (sym (decided-is c.before.before.before.before.before.before.before.before.before.before.before.before.before.before.before.before.before.before.before.before.before.before.before.before.before) ∙ c.if-enough.true))
+unfolding formed_by walked_to
+returns-then-enough c =
+    let full : length c.args.d.answers ≡ 12 = c.well_formed.0.1.1.1.1.1.1.1.0.1.0.1 in
+    let walked : c.loop-i.l ≡ walked_to c.args.d c.touched-shards.result 12 = c.loop-i.invariant.1 ∙ ap (walked_to c.args.d c.touched-shards.result) (omega arith) in
+    let no-is : c.first_of-no.result ≡ refusal c.args.d c.args.m =
+    refusal_is c.args.d full c.args.m c.touched-shards.ensures walked
+    (rw (c.set_formed.ensures, c.answers_formed.ensures, c.head_formed.ensures))
+    c.judge-judged.ensures c.first_of-no.ensures in
+    let taken : refusal c.args.d c.args.m ≡ 0 = sym no-is ∙ not_there c.first_of-no.result c.if-refused.false-raw in
+    let lt : c.args.m.server < 12 = ok_place c.args.d c.args.m taken c.if-done.false-raw in
+    let touches : c.touched-shards.result ≡ touched c.args.d = c.touched-shards.ensures ∙ taken-touched c.args.d c.args.m taken in
+    let decided-is : c.decided-enough.result ≡ decided (with_answer c.args.d c.args.m.server (answer_of c.args.m)) =
+    rw (c.decided-enough.ensures, c.insert-answered.ensures, walked, touches)
+    (decided-after c.args.d full c.args.m.server lt (answer_of c.args.m) (answer_counts c.args.m)) in
+    let after = with_answer c.args.d c.args.m.server c.answer_of-a.result in
+    let words-are : c.in_all-words.result ≡ words_of after =
+    rw (c.in_all-words.ensures, c.in_shard-k3.ensures, c.in_shard-k2.ensures, c.in_shard-k1.ensures, c.in_shard-k0.ensures) (words-four after) in
+    let all-are : c.all_answered-all.result ≡ all_answered after =
+    rw (c.all_answered-all.ensures, c.insert-answered.ensures, walked, touches)
+    (answered-after c.args.d full c.args.m.server lt c.answer_of-a.result (rw c.answer_of-a.ensures (answer_counts c.args.m))) in
+    let turn-is : c.choose-turn.result ≡ turn_of after =
+    elim c.if-preparing.branch [
+      | then-preparing w ↦ turn-early after c.if-preparing.vote all-are (w.vote-is ∙ w.best-vote.ensures) words-are c.choose-turn.ensures
+      | else-preparing w ↦ turn-late after c.if-preparing.vote w.if-preparing.false-raw all-are words-are c.choose-turn.ensures
+    ] in
+    rw (c.turning-then-enough.ensures, turn-is, c.answer_of-a.ensures) (deciding-weighs c.args.d c.args.m no-is c.if-refused.false-raw c.if-done.false-raw c.if-behind.false-raw (sym decided-is ∙ c.if-enough.true))
 
 pub returns : goal.returns
-returns c = rw (c.keeping-2.ensures, c.answer_of-a.ensures) (waiting-weighs c.args.d c.args.m (no-is c.before.before.before.before.before.before.before.before.before.before.before) c.if-refused.false-raw c.if-done.false-raw c.if-behind.false-raw (sym (decided-is c.before.before) ∙ c.if-enough.false))
+unfolding formed_by walked_to
+returns c =
+    let full : length c.args.d.answers ≡ 12 = c.well_formed.0.1.1.1.1.1.1.1.0.1.0.1 in
+    let walked : c.loop-i.l ≡ walked_to c.args.d c.touched-shards.result 12 = c.loop-i.invariant.1 ∙ ap (walked_to c.args.d c.touched-shards.result) (omega arith) in
+    let no-is : c.first_of-no.result ≡ refusal c.args.d c.args.m =
+    refusal_is c.args.d full c.args.m c.touched-shards.ensures walked
+    (rw (c.set_formed.ensures, c.answers_formed.ensures, c.head_formed.ensures))
+    c.judge-judged.ensures c.first_of-no.ensures in
+    let taken : refusal c.args.d c.args.m ≡ 0 = sym no-is ∙ not_there c.first_of-no.result c.if-refused.false-raw in
+    let lt : c.args.m.server < 12 = ok_place c.args.d c.args.m taken c.if-done.false-raw in
+    let touches : c.touched-shards.result ≡ touched c.args.d = c.touched-shards.ensures ∙ taken-touched c.args.d c.args.m taken in
+    let decided-is : c.decided-enough.result ≡ decided (with_answer c.args.d c.args.m.server (answer_of c.args.m)) =
+    rw (c.decided-enough.ensures, c.insert-answered.ensures, walked, touches)
+    (decided-after c.args.d full c.args.m.server lt (answer_of c.args.m) (answer_counts c.args.m)) in
+    rw (c.keeping-2.ensures, c.answer_of-a.ensures) (waiting-weighs c.args.d c.args.m no-is c.if-refused.false-raw c.if-done.false-raw c.if-behind.false-raw (sym decided-is ∙ c.if-enough.false))
