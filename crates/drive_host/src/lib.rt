@@ -1,5 +1,6 @@
 // What the host says to a drive: start, recover, again, move on; and the message that is due.
 #![tactic(auto)]
+
 ghost use Rattle.std.specs.Prelude.{◌≡◌};
 ghost use Rattle.drive.specs.Held.{began};
 ghost use Rattle.drive.specs.Host.{start_refusal, start, recover_refusal, recover, again, move_on};

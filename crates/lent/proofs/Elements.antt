@@ -17,10 +17,10 @@ use lib.Dec.{T, ltb, ltb→lt}
 use lib.ListN.{length, get_or, set, length-map, length-set}
 use lib.Seq.{set-get_or}
 use seplogic.Ra.Ura.{Ura}
-use seplogic.Ra.TreeShare.{full_share}
+use base.Fraction.{full_share}
 use mir.Syntax.{Ty, ty_array, w64}
 use mir.Raw.{raw as raw_ty}
-use mir.Val.{Val, vunit, vbool, vint, vfloat, vptr, vstruct, Fits, WT, has_ty}
+use mir.Val.{Val, vunit, vbool, vint, vfloat, vptr, vstruct, vcode, Fits, WT, has_ty}
 use mir.Fields.{set_v}
 use base.Logic.{SProp, ent, sep, wand, all, all_e, apply∗}
 use base.Fml.{Share, fat}
@@ -224,4 +224,5 @@ with_field (vbool t) k u = u
 with_field (vint w n) k u = u
 with_field (vfloat f x) k u = u
 with_field (vptr b o) k u = u
+with_field (vcode c) k u = u
 with_field (vstruct vs) k u = vstruct (set_v vs k u)

@@ -1,0 +1,6 @@
+-- `drive_host::turned` meets its contract: the answers are twelve times none. Assumes nothing.
+use borrow.Author.Rules.{rules}
+use Rattle.drive_host.proofs.turned.Goals as goal
+
+pub returns : goal.returns
+returns c = rw c.no_answer-none.ensures
