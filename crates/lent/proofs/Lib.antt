@@ -1,4 +1,3 @@
 pub mod Elements
 pub mod Counting
-pub mod Lending
 pub mod Values

@@ -1,10 +1,17 @@
 -- What a server in memory is known to be: how long its arrays are, and that its words are words. Assumes nothing.
-use Prim.Native.Nat.{ℕ, ◌<◌, ◌^◌}
+use Prim.Native.Nat.{ℕ, zero, suc, ◌<◌, ◌^◌}
 use mathlib.Core.Path.{◌≡◌, sym, ◌∙◌}
 use mathlib.Core.Bool.{Bool, true, false, cond}
-use lib.ListN.{length, length-map}
+use lib.ListN.{length, get_or}
 use lib.Pow.{pow_pos}
 use denote.Laws.{Is}
+use denote.Array.{each}
+use denote.RattleType.{RattleType}
+use denote.Shadow.{shadow}
+use denote.Struct.Loose.{Facts}
+use mir.Val.{Val}
+use native.Mathlib.Omega.{arith}
+use mathlib.Core.List.{List, [], ◌∷◌}
 use denote.Struct.Laws as LL
 use Rattle.masks.specs.Folds.{union_of}
 use Rattle.masks.proofs.Laws.{union_lt}
@@ -25,42 +32,46 @@ use Rattle.server.specs.contracts.Record as RRecord
 use Rattle.server.proofs.Record.TheLaws as LRecord
 use Rattle.server.specs.contracts.Log as RLog
 use Rattle.server.proofs.Log.TheLaws as LLog
-use Rattle.lent.proofs.Elements.{elem_is}
 
 members_lt : (v : Set) → v.w0 < 2 ^ 64 → v.w1 < 2 ^ 64 → v.w2 < 2 ^ 64 → v.w3 < 2 ^ 64 → members v < 2 ^ 64
 unfolding members union_of word
 members_lt v a b c d = union_lt 64 _ _ (union_lt 64 _ _ (union_lt 64 _ _ (union_lt 64 _ _ (pow_pos 64) a) b) c) d
 
-module _ (s : Server) (was : Is RServer.the_row s (LL.vals RServer.the_type LServer.the_laws s)) where
-  counters-is : Is RCounters.the_row s.counters (LL.vals RCounters.the_type LCounters.the_laws s.counters)
-  counters-is = (LL.owed RServer.the_type LServer.the_laws s _ was).1.1.0
+-- an element of an array is owed what its type says
+element : (R : RattleType) (d : R.Denot) (xs : List R.Denot) (us : List Val) → shadow (each R.Denot R.own_val xs us) → (i : ℕ) → i < length xs → (u : Val) × Is R (get_or xs i d) (u ∷ [])
+element R d [] us p i l = absurd (omega (arith, l))
+element R d (x ∷ xs) [] p i l = absurd p
+element R d (x ∷ xs) (u ∷ us) p zero l = (u, p.0)
+element R d (x ∷ xs) (u ∷ us) p (suc i) l = element R d xs us p.1 i (omega (arith, l))
 
-  log_is : Is RLog.the_row s.log (LL.vals RLog.the_type LLog.the_laws s.log)
-  log_is = (LL.owed RServer.the_type LServer.the_laws s _ was).1.1.1.0
+-- what a function is told of a server in memory
+abbrev pub Told : Server → Type 0
+Told s = Facts RServer.the_type.parts LServer.the_maybe (RServer.the_type.to s)
 
+module _ (s : Server) (was : Told s) where
   pub records-long : length s.records ≡ 64
-  records-long = sym (length-map s.records _) ∙ (LL.owed RServer.the_type LServer.the_laws s _ was).1.0.1.0.1
+  records-long = was.1.0.1.0.1
 
   pub counters-long : length s.counters.list ≡ 16
-  counters-long = sym (length-map s.counters.list _) ∙ (LL.owed RCounters.the_type LCounters.the_laws s.counters _ counters-is).0.1.0.1
+  counters-long = (LL.owed RCounters.the_type LCounters.the_laws s.counters _ was.1.1.0).0.1.0.1
 
   pub log-long : length s.log.list ≡ 64
-  log-long = sym (length-map s.log.list _) ∙ (LL.owed RLog.the_type LLog.the_laws s.log _ log_is).0.1.0.1
+  log-long = (LL.owed RLog.the_type LLog.the_laws s.log _ was.1.1.1.0).0.1.0.1
 
   module _ (t : ℕ) (l : t < 64) where
-    record_is : Is RRecord.the_row (record_at s t) (LL.vals RRecord.the_type LRecord.the_laws (record_at s t))
-    record_is = elem_is RRecord.the_field LRecord.the_field_laws 64 s.records t no_record (LL.owed RServer.the_type LServer.the_laws s _ was).1.0 l
+    record_is : (u : Val) × Is RRecord.the_row (record_at s t) (u ∷ [])
+    record_is = element RRecord.the_row no_record s.records _ was.1.0.1.1 t (rw records-long l)
 
-    committed-is : Is RMaybeSet.the_row (record_at s t).committed (LL.vals RMaybeSet.the_type LMaybeSet.the_laws (record_at s t).committed)
-    committed-is = (LL.owed RRecord.the_type LRecord.the_laws (record_at s t) _ record_is).1.1.1.1.0
+    committed-is : (u : Val) × Is RMaybeSet.the_row (record_at s t).committed (u ∷ [])
+    committed-is = (_, (LL.owed RRecord.the_type LRecord.the_laws (record_at s t) _ record_is.1).1.1.1.1.0)
 
-    set_is : Is RSet.the_row (record_at s t).committed.set (LL.vals RSet.the_type LSet.the_laws (record_at s t).committed.set)
-    set_is = (LL.owed RMaybeSet.the_type LMaybeSet.the_laws (record_at s t).committed _ committed-is).1.0
+    set_is : (u : Val) × Is RSet.the_row (record_at s t).committed.set (u ∷ [])
+    set_is = (_, (LL.owed RMaybeSet.the_type LMaybeSet.the_laws (record_at s t).committed _ committed-is.1).1.0)
 
     pub words_small : deps_at s t < 2 ^ 64
     unfolding deps_at
     words_small = go (committed_at s t)
       where
         go : (b : Bool) → cond b (members (record_at s t).committed.set) 0 < 2 ^ 64
-        go true = let w = LL.owed RSet.the_type LSet.the_laws (record_at s t).committed.set _ set_is in members_lt (record_at s t).committed.set w.0.1 w.1.0.1 w.1.1.0.1 w.1.1.1.0.1
+        go true = let w = LL.owed RSet.the_type LSet.the_laws (record_at s t).committed.set _ set_is.1 in members_lt (record_at s t).committed.set w.0.1 w.1.0.1 w.1.1.0.1 w.1.1.1.0.1
         go false = pow_pos 64

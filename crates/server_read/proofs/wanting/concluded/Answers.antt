@@ -1,0 +1,16 @@
+use Rattle.server_read.specs.Wanting.{wants_of}
+use borrow.Author.Rules.{rules}
+use Rattle.server_read.proofs.wanting.concluded.Reads as reads
+use Rattle.server_read.proofs.wanting.concluded.Lts as lts
+use Rattle.server_run.proofs.gather.set_without.Reads as set-without-reads
+use Rattle.server_read.proofs.wanting.concluded.Goals as goal
+
+-- src/wanting.rt:69:9
+pub returns-then-fine : goal.returns-then-fine
+unfolding wants_of
+returns-then-fine c = rw (c.if-fine.true, c.set_without-set.ensures)
+
+-- src/wanting.rt:63:1
+pub returns : goal.returns
+unfolding wants_of
+returns c = rw c.if-fine.false
