@@ -1,5 +1,6 @@
 // The reply step over a lent drive: what the station lends is one drive, and each reply moves it on.
 #![tactic(auto)]
+
 ghost use Rattle.std.specs.Prelude.{◌≡◌};
 ghost use Rattle.drive.specs.Hear.{hear};
 
