@@ -6,8 +6,6 @@ use mathlib.Core.List.{List, [], ◌∷◌, ◌++◌}
 use native.Mathlib.Numerals.{add-one}
 use native.Mathlib.Omega.{arith}
 use lib.ListN.{length, drop, replicate}
-use denote.Laws.{Is}
-use denote.Struct.Laws as LL
 use Rattle.masks.specs.Folds.{iter, tab}
 use Rattle.masks.proofs.Fills.{fill_none, fill_step, fill-all}
 use Rattle.rules.specs.Cluster.{bad_server}
@@ -17,10 +15,8 @@ use Rattle.server.specs.declared.Record.{Record}
 use Rattle.server.specs.declared.Server.{Server}
 use Rattle.server.specs.Held.{fresh_record, put_record}
 use Rattle.server.specs.Host.{fresh, fresh_server}
-use Rattle.server.specs.contracts.Server as RServer
-use Rattle.server.proofs.Server.TheLaws as LServer
 use Rattle.server_lent.specs.First.{refusal_of, many_of, id_of, counters_of, log_of, records_fresh}
-use Rattle.server_read.proofs.Sizes.{records-long}
+use Rattle.server_read.proofs.Sizes.{Told, records-long}
 
 abbrev with_records : Server → List Record → Server
 with_records s l = record { id = s.id; records = l; counters = s.counters; log = s.log }
@@ -64,7 +60,7 @@ all_same (suc n) a = ap (λ (l : List Record). l ++ (a ∷ [])) (all_same n a) �
 all_fresh : (s : Server) → length s.records ≡ 64 → records_fresh s 64 ≡ with_records s (replicate 64 fresh_record)
 all_fresh s e = so_far s 64 e (omega arith) ∙ ap (with_records s) (fill-all (λ t. fresh_record) s.records 64 (omega (arith, e)) ∙ all_same 64 fresh_record)
 
-pub fresh_left : (s : Server) (id : ℕ) → Is RServer.the_row s (LL.vals RServer.the_type LServer.the_laws s)
+pub fresh_left : (s : Server) (id : ℕ) → Told s
     → record { id = id_of id (records_fresh s (many_of id)).id; records = (records_fresh s (many_of id)).records; counters = counters_of id (records_fresh s (many_of id)).counters; log = log_of id (records_fresh s (many_of id)).log } ≡ (fresh s id).server
 unfolding fresh fresh_server many_of id_of counters_of log_of records_fresh iter
 fresh_left s id was = go (bad_server id)

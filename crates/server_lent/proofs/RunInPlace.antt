@@ -77,11 +77,11 @@ module _ (ps : Pieces) (k : ℕ) where
     pub pieces-run : ran_pieces ps k c (used ps.count) ≡ execute ps k c
     pieces-run = walked (used ps.count) (used_le ps.count) (used-counted ps.count) ∙ in_place.used_all ps k c
 
-result-place_lt : (n : ℕ) → result_place n < 8
+pub result-place_lt : (n : ℕ) → result_place n < 8
 unfolding result_place
 result-place_lt n = ⊎_elim (λ h. rw h (ltb-true n 8 h)) (λ h. rw h (omega arith)) (true_or_false (ltb n 8))
 
-spot_lt : (first t : ℕ) → spot_of first t < 64
+pub spot_lt : (first t : ℕ) → spot_of first t < 64
 unfolding spot_of
 spot_lt first t = ⊎_elim (λ h. rw h (ltb-true (first + t) 64 h)) (λ h. rw h (omega arith)) (true_or_false (ltb (first + t) 64))
 

@@ -36,11 +36,7 @@ use Rattle.server_plan.specs.declared.Waiting.{Waiting}
 use Rattle.server_lent.specs.Listed.{spot_of, listed_at, ran_planned}
 use Rattle.server_plan.specs.Planning.{unrun_of, committed_with, waiting_turn, waiting_in, noted, logged_of, planned_log, planned_by}
 use Rattle.server_lent.proofs.AlongTheLog.{risen, runs, order, turns-runs, count-after, entry_after, plan-runs}
-use Rattle.server.specs.contracts.Server as RServer
-use Rattle.server.proofs.Server.TheLaws as LServer
-use denote.Laws.{Is}
-use denote.Struct.Laws as LL
-use Rattle.server_read.proofs.Sizes.{records-long, counters-long, log-long, words_small}
+use Rattle.server_read.proofs.Sizes.{Told, records-long, counters-long, log-long, words_small}
 use Rattle.server_plan.proofs.PlanIsRuns.{plan-is}
 
 -- ---- the log of a plan has room
@@ -210,7 +206,7 @@ module _ (s : Server) (limit : ℕ) where
       let committed : waiting.committed ≡ mask_of (committed_at s) 64 = ap (λ (d : Waiting). d.committed) all in
       λ j. planned_by (form-is j) (deps j) (committed j) s.log limit
 
-  module _ (was : Is RServer.the_row s (LL.vals RServer.the_type LServer.the_laws s)) where
+  module _ (was : Told s) where
     pub planned-refusal : planned.refusal ≡ (ran_up_to limit s).refusal
     planned-refusal = ap (λ (p : Planned). p.refusal) planned-from ∙ told-refusal s limit (records-long s was) (counters-long s was) (log-long s was) (words_small s was)
 

@@ -1,0 +1,13 @@
+-- `server_lent::running::spot` meets its contract. Assumes nothing.
+use borrow.Author.Tests.{lt-ltb, le-ltb}
+use borrow.Author.Rules.{rules}
+use Rattle.server_lent.specs.Listed.{spot_of}
+use Rattle.server_lent.proofs.running.spot.Goals as goal
+
+pub returns-then-at-lt64 : goal.returns-then-at-lt64
+unfolding spot_of
+returns-then-at-lt64 c = rw (lt-ltb _ _ c.if-at-lt64.true)
+
+pub returns-else-at-lt64 : goal.returns-else-at-lt64
+unfolding spot_of
+returns-else-at-lt64 c = rw (le-ltb _ _ c.if-at-lt64.false)
