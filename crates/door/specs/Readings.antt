@@ -40,8 +40,8 @@ result_in v i =
     reading (get_or v.values.list i no_value).value (get_or v.values.list i no_value).kept if there v.ran && ltb i v.values.count && ltb i PIECES
     else no_reading
 
-unfoldable pub result : Server → ℕ → ℕ → Reading
-result s t i = result_in (record_at s t) i if ltb t NUMBERS else no_reading
+unfoldable pub result_reading : Server → ℕ → ℕ → Reading
+result_reading s t i = result_in (record_at s t) i if ltb t NUMBERS else no_reading
 
 -- the same of the record that stands at the number's place
 unfoldable pub result_at : Record → (t i : ℕ) → Reading

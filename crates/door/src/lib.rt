@@ -1,5 +1,6 @@
 // The door of the library: what a host is told of the states and bytes that it lends. `station` lends them.
 #![tactic(auto)]
+
 use server::Record;
 
 pub mod exchange; // exchange.rt: bytes in, bytes out

@@ -5,7 +5,7 @@ ghost use Rattle.server.specs.Host.{fresh, wanted};
 ghost use Rattle.server.specs.Run.{run, run_all};
 ghost use Rattle.server_run.specs.Limited.{ran_up_to};
 ghost use Rattle.door.specs.Told.{counted};
-ghost use Rattle.door.specs.Readings.{counter, log_entry, result};
+ghost use Rattle.door.specs.Readings.{counter, log_entry, result_reading};
 ghost use Rattle.station.specs.Commits.{committed};
 
 use door::{Answer, Counted, LogEntry, Reading};
@@ -16,16 +16,16 @@ use server_step::Considered;
 // A fresh server `id` in the lent place, whatever stood there. Answers the refusal, or 0.
 #[unsafe(no_mangle)]
 pub extern "C" fn drobulets_server_fresh(s: &mut Server, id: u32) -> u32
-    ensures* { λ r. ⌜ (r ≡ (fresh s.old id).refusal) × (s.new ≡ (fresh s.old id).server) ⌝ }
+    ensures { (result ≡ (fresh s.old id).refusal) × (s.new ≡ (fresh s.old id).server) }
 {
     server_lent::first::fresh(s, id)
 }
 
 // A Commit that nothing refused, at a server of this form, before anything is stored: `h` is what it comes to. On a refusal of the output nothing is stored and nothing runs.
 pub fn commit(s: &mut Server, f: Form, h: Considered, output: &mut [u8]) -> Answer
-    ensures* { λ r. ⌜ (r ≡ (committed s.old f h output.old).answer)
+    ensures { (result ≡ (committed s.old f h output.old).answer)
         × (s.new ≡ (committed s.old f h output.old).server)
-        × (output.new ≡ (committed s.old f h output.old).output) ⌝ }
+        × (output.new ≡ (committed s.old f h output.old).output) }
 {
     let w = server_read::form::form_word(f);
     let mut d = server_plan::waiting_in(&*s, w, 64);
@@ -56,9 +56,9 @@ pub fn commit(s: &mut Server, f: Form, h: Considered, output: &mut [u8]) -> Answ
 // A Commit, or a Done as one, then runs what is ready; every other message changes the one record of its T. The form is judged once.
 #[unsafe(no_mangle)]
 pub extern "C" fn drobulets_server_take(s: &mut Server, input: &[u8], output: &mut [u8]) -> Answer
-    ensures* { λ r. ⌜ (r ≡ (take s.old input.now output.old).answer)
+    ensures { (result ≡ (take s.old input.now output.old).answer)
         × (s.new ≡ (take s.old input.now output.old).server)
-        × (output.new ≡ (take s.old input.now output.old).output) ⌝ }
+        × (output.new ≡ (take s.old input.now output.old).output) }
 {
     let d = codec::decode(input);
     let f0 = server_read::form::head(&*s);
@@ -83,7 +83,7 @@ pub extern "C" fn drobulets_server_take(s: &mut Server, input: &[u8], output: &m
 
 // At most `limit` runs. What runs, and in which order, is known before any number runs: so the server is changed only where a number runs, and not at all where the form is broken.
 pub fn runs(s: &mut Server, limit: u32) -> Counted
-    ensures* { λ r. ⌜ (r ≡ counted (ran_up_to limit s.old)) × (s.new ≡ (ran_up_to limit s.old).server) ⌝ }
+    ensures { (result ≡ counted (ran_up_to limit s.old)) × (s.new ≡ (ran_up_to limit s.old).server) }
 {
     let f0 = server_read::form::head(&*s);
     let f = server_read::form::form_in(&*s, f0, 64);
@@ -101,7 +101,7 @@ pub fn runs(s: &mut Server, limit: u32) -> Counted
 // One run.
 #[unsafe(no_mangle)]
 pub extern "C" fn drobulets_server_run(s: &mut Server) -> Counted
-    ensures* { λ r. ⌜ (r ≡ counted (run s.old)) × (s.new ≡ (run s.old).server) ⌝ }
+    ensures { (result ≡ counted (run s.old)) × (s.new ≡ (run s.old).server) }
 {
     runs(s, 1)
 }
@@ -109,7 +109,7 @@ pub extern "C" fn drobulets_server_run(s: &mut Server) -> Counted
 // Runs until nothing is ready.
 #[unsafe(no_mangle)]
 pub extern "C" fn drobulets_server_run_all(s: &mut Server) -> Counted
-    ensures* { λ r. ⌜ (r ≡ counted (run_all s.old)) × (s.new ≡ (run_all s.old).server) ⌝ }
+    ensures { (result ≡ counted (run_all s.old)) × (s.new ≡ (run_all s.old).server) }
 {
     runs(s, 64)
 }
@@ -117,7 +117,7 @@ pub extern "C" fn drobulets_server_run_all(s: &mut Server) -> Counted
 // The wanted set.
 #[unsafe(no_mangle)]
 pub extern "C" fn drobulets_server_wanted(s: &Server) -> Wants
-    ensures* { λ r. ⌜ r ≡ wanted s.now ⌝ }
+    ensures { result ≡ wanted s.now }
 {
     server_read::wanting::wanted(s)
 }
@@ -125,7 +125,7 @@ pub extern "C" fn drobulets_server_wanted(s: &Server) -> Wants
 // The counter of a key. Readers judge nothing.
 #[unsafe(no_mangle)]
 pub extern "C" fn drobulets_server_counter(s: &Server, key: u32) -> Reading
-    ensures* { λ r. ⌜ r ≡ counter s.now key ⌝ }
+    ensures { result ≡ counter s.now key }
 {
     let c = s.counters;
     door::readings::counter(c, key)
@@ -134,7 +134,7 @@ pub extern "C" fn drobulets_server_counter(s: &Server, key: u32) -> Reading
 // The number at a place of the log.
 #[unsafe(no_mangle)]
 pub extern "C" fn drobulets_server_log(s: &Server, place: u32) -> LogEntry
-    ensures* { λ r. ⌜ r ≡ log_entry s.now place ⌝ }
+    ensures { result ≡ log_entry s.now place }
 {
     let l = s.log;
     door::readings::log_entry(l, place)
@@ -143,7 +143,7 @@ pub extern "C" fn drobulets_server_log(s: &Server, place: u32) -> LogEntry
 // A result of the number `t`, in the order of its pieces on this server's shard.
 #[unsafe(no_mangle)]
 pub extern "C" fn drobulets_server_result(s: &Server, t: u32, place: u32) -> Reading
-    ensures* { λ r. ⌜ r ≡ result s.now t place ⌝ }
+    ensures { result ≡ result_reading s.now t place }
 {
     let i = door::readings::place_of(t);
     let v = s.records[i];

@@ -1,0 +1,26 @@
+-- `door::exchange::counted` meets its contract. Assumes nothing.
+use mathlib.Core.Path.{◌∙◌}
+use borrow.Author.Rules.{rules}
+use Rattle.door.specs.Exchange.{answer_of, written_of}
+use Rattle.door.proofs.Unwritten.{unwritten}
+use Rattle.door.proofs.exchange.counted.Goals as goal
+
+pub returns-then-untaken : goal.returns-then-untaken
+unfolding answer_of written_of
+returns-then-untaken c = let taken = c.if-untaken.true-raw in (rw (c.refused.ensures, taken), rw taken)
+
+pub returns-then-unwritten : goal.returns-then-unwritten
+unfolding answer_of written_of
+returns-then-unwritten c =
+    let e = rw c.commit_ok.ensures at c.encode-e.ensures in
+    let unwrote = rw e.0 at c.if-unwritten.true-raw in
+    let fine = c.if-untaken.false-raw in
+    (rw (c.refused-then-unwritten.ensures, e.0, fine, unwrote), rw (fine, unwrote) (e.1 ∙ unwritten _ _ unwrote))
+
+pub returns : goal.returns
+unfolding answer_of written_of
+returns c =
+    let e = rw c.commit_ok.ensures at c.encode-e.ensures in
+    let wrote = rw e.0 at c.if-unwritten.false-raw in
+    let fine = c.if-untaken.false-raw in
+    (rw (e.0, fine, wrote), rw (fine, wrote) e.1)
