@@ -42,7 +42,7 @@ use Rattle.server_step.specs.OneStore.{considered, runs_after}
 use Rattle.server_step.proofs.StepIsServe.{step-alone, considered-taken}
 use Rattle.server_read.specs.declared.form.Form.{Form}
 use Rattle.server_read.specs.InPlace.{form_begun, form_in}
-use Rattle.server_read.proofs.Sizes.{records-long, counters-long, log-long, words_small}
+use Rattle.server_read.proofs.Sizes.{Told, records-long, counters-long, log-long, words_small}
 use Rattle.server_plan.specs.declared.Planned.{Planned}
 use Rattle.server_plan.specs.Planning.{unrun_of, waiting_turn, waiting_in, planned_after}
 use Rattle.server_lent.specs.Listed.{ran_planned}
@@ -51,19 +51,9 @@ use Rattle.door.specs.Exchange.{Exchange, exchanged, take, judged_of, heard_of, 
 use Rattle.door.proofs.Stored.{heard-is}
 use Rattle.station.specs.Commits.{committed}
 
-abbrev pub Sound : Server → Type 0
-Sound s = Is RServer.the_row s (LL.vals RServer.the_type LServer.the_laws s)
-
-abbrev pub TypedDecoded : Decoded → Type 0
-TypedDecoded d = Is RDecoded.the_row d (LL.vals RDecoded.the_type LDecoded.the_laws d)
-
 -- the set of a decoded message has words
-set_fits : (d : Decoded) → TypedDecoded d → SetFits d.message.set
-set_fits d is =
-    let m = (LL.owed RDecoded.the_type LDecoded.the_laws d _ is).1.0 in
-    let v = (LL.owed RMessage.the_type LMessage.the_laws d.message _ m).1.1.1.1.1.1.0 in
-    let w = LL.owed RSet.the_type LSet.the_laws d.message.set _ v in
-    record { w0 = w.0.1; w1 = w.1.0.1; w2 = w.1.1.0.1; w3 = w.1.1.1.0.1 }
+abbrev pub TypedDecoded : Decoded → Type 0
+TypedDecoded d = SetFits d.message.set
 
 -- the server s, or X where the answer is written
 abbrev ends : (s X : Server) → Considered → List ℕ → Exchange
@@ -79,7 +69,7 @@ unfolding answer_of written_of exchanged
 written_or_not s X z d i v R unread true e = rw (unread, e, e)
 written_or_not s X z d i v R unread false e = rw (unread, e)
 
-module _ (s : Server) (input z : List ℕ) (was : Sound s) (typed : TypedDecoded (decode input)) where
+module _ (s : Server) (input z : List ℕ) (was : Told s) (typed : TypedDecoded (decode input)) where
   abbrev d : Decoded
   d = decode input
 
@@ -145,10 +135,10 @@ module _ (s : Server) (input z : List ℕ) (was : Sound s) (typed : TypedDecoded
     p = plan m.t
 
     many-so : p.many ≡ (run_all Z).many
-    many-so = commit-many s m (records-long s was) (counters-long s was) (log-long s was) (words_small s was) (set_fits d typed) taken_here k
+    many-so = commit-many s m (records-long s was) (counters-long s was) (log-long s was) (words_small s was) typed taken_here k
 
     server-so : ran_planned p.plan p.log p.many Z ≡ (run_all Z).server
-    server-so = commit-server s m (records-long s was) (counters-long s was) (log-long s was) (words_small s was) (set_fits d typed) taken_here k
+    server-so = commit-server s m (records-long s was) (counters-long s was) (log-long s was) (words_small s was) typed taken_here k
 
     abbrev R : Message
     R = commit_ok m.t s.id (run_all Z).many

@@ -28,9 +28,10 @@ use Rattle.door.specs.declared.Answer.{Answer}
 use Rattle.door.specs.declared.Taken.{Taken}
 use Rattle.door.specs.Exchange.{Exchange, take, heard_of, place_in, counting, answer_of, written_of, take_reply, weigh_reply}
 use Rattle.door.specs.Told.{counted}
-use Rattle.door.specs.Readings.{result_in, result, result_at, no_reading}
+use Rattle.door.specs.Readings.{result_in, result_reading, result_at, no_reading}
 use Rattle.station.specs.Commits.{plan_for, committed}
-use Rattle.station.proofs.CommitTaken.{Sound, TypedDecoded, commit-taken}
+use Rattle.server_read.proofs.Sizes.{Told}
+use Rattle.station.proofs.CommitTaken.{TypedDecoded, commit-taken}
 use Rattle.door.proofs.Stored.{place_in_below, take-told, take-written, take_below, take-refused, take_left, weigh-reply-told, weigh-reply-below, weigh-reply-refused, weigh-reply-turned, weigh-reply-kept}
 
 -- ---- `drobulets_server_take`
@@ -65,13 +66,13 @@ module _ (s : Server) (input z : List ℕ) where
   server-take-written = take-written s input z
 
   -- a Commit
-  pub server-take-told-runs : Sound s → TypedDecoded (decode input) → runs_then ≡ true → (committed s form heard z).answer ≡ (take s input z).answer
+  pub server-take-told-runs : Told s → TypedDecoded (decode input) → runs_then ≡ true → (committed s form heard z).answer ≡ (take s input z).answer
   server-take-told-runs was is goes = ap (λ (x : Exchange). x.answer) (commit-taken s input z was is goes)
 
-  pub server-take-left-runs : Sound s → TypedDecoded (decode input) → runs_then ≡ true → (committed s form heard z).server ≡ (take s input z).server
+  pub server-take-left-runs : Told s → TypedDecoded (decode input) → runs_then ≡ true → (committed s form heard z).server ≡ (take s input z).server
   server-take-left-runs was is goes = ap (λ (x : Exchange). x.server) (commit-taken s input z was is goes)
 
-  pub server-take-written-runs : Sound s → TypedDecoded (decode input) → runs_then ≡ true → (committed s form heard z).output ≡ (take s input z).output
+  pub server-take-written-runs : Told s → TypedDecoded (decode input) → runs_then ≡ true → (committed s form heard z).output ≡ (take s input z).output
   server-take-written-runs was is goes = ap (λ (x : Exchange). x.output) (commit-taken s input z was is goes)
 
 -- ---- `commit`
@@ -110,10 +111,10 @@ module _ (s : Server) (f : Form) (h : Considered) (z : List ℕ) where
 
 -- ---- the runs
 
-pub runs-told : (s : Server) (limit : ℕ) → Sound s → record { refusal = (planned s limit).refusal; many = (planned s limit).many } ≡ counted (ran_up_to limit s)
+pub runs-told : (s : Server) (limit : ℕ) → Told s → record { refusal = (planned s limit).refusal; many = (planned s limit).many } ≡ counted (ran_up_to limit s)
 runs-told s limit was = λ j. record { refusal = planned-refusal s limit was j; many = planned-many s limit was j }
 
-pub runs_left : (s : Server) (limit : ℕ) → Sound s → ran_planned (planned s limit).plan (planned s limit).log (planned s limit).many s ≡ (ran_up_to limit s).server
+pub runs_left : (s : Server) (limit : ℕ) → Told s → ran_planned (planned s limit).plan (planned s limit).log (planned s limit).many s ≡ (ran_up_to limit s).server
 runs_left s limit was = planned-server s limit was
 
 module _ (s : Server) where
@@ -135,8 +136,8 @@ module _ (s : Server) (t place : ℕ) where
   pub server-result-place-of-below : place_of t < 64
   server-result-place-of-below = place_lt t (place_of t) refl
 
-  pub server-result-told : result_at (record_at s (place_of t)) t place ≡ result s t place
-  unfolding result result_at place_of
+  pub server-result-told : result_at (record_at s (place_of t)) t place ≡ result_reading s t place
+  unfolding result_reading result_at place_of
   server-result-told = go (ltb t 64) refl
     where
       go : (b : Bool) → ltb t 64 ≡ b → cond b (result_in (record_at s (place_of t)) place) no_reading ≡ cond b (result_in (record_at s t) place) no_reading

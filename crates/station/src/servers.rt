@@ -60,6 +60,8 @@ pub extern "C" fn drobulets_server_take(s: &mut Server, input: &[u8], output: &m
         × (s.new ≡ (take s.old input.now output.old).server)
         × (output.new ≡ (take s.old input.now output.old).output) }
 {
+    // What is read is not needed: a read tells the proof what the lent server holds.
+    let _told = s.records[0].ran;
     let d = codec::decode(input);
     let f0 = server_read::form::head(&*s);
     let f = server_read::form::form_in(&*s, f0, 64);
@@ -85,6 +87,8 @@ pub extern "C" fn drobulets_server_take(s: &mut Server, input: &[u8], output: &m
 pub fn runs(s: &mut Server, limit: u32) -> Counted
     ensures { (result ≡ counted (ran_up_to limit s.old)) × (s.new ≡ (ran_up_to limit s.old).server) }
 {
+    // What is read is not needed: a read tells the proof what the lent server holds.
+    let _told = s.records[0].ran;
     let f0 = server_read::form::head(&*s);
     let f = server_read::form::form_in(&*s, f0, 64);
     let w = server_read::form::form_word(f);
