@@ -6,7 +6,7 @@ use counters::{Counter, Outcome};
 use drive::Drive;
 use messages::asks::inquire;
 use messages::replies::pre_accept_ok;
-use station::messages::{drobulets_decode, drobulets_next_ballot};
+use station::by_value::{drobulets_decode, drobulets_next_ballot};
 
 // The next ballot of c above n is this one, or is refused.
 fn next_is(c: u32, n: u32, refusal: u32, ballot: u32) -> bool {

@@ -13,8 +13,8 @@ use drive::{Drive, Moved};
 use encoding::Encoded;
 use rules::Pieces;
 use server::{Begun, Ran, Server, Wants};
+use station::by_value::drobulets_encode;
 use station::drives::{drobulets_drive_start, drobulets_drive_take};
-use station::messages::drobulets_encode;
 use station::servers::{
     drobulets_server_counter, drobulets_server_fresh, drobulets_server_log, drobulets_server_run,
     drobulets_server_take, drobulets_server_wanted,

@@ -1,6 +1,7 @@
 // The cases A to L of document 01: a line each, its letter and `ok`, or `bad` where the library answers anything else.
 // Every verdict is computed from calls of the library.
 #![tactic(auto)]
+
 mod feed; // feed.rt: pieces and sets to feed
 pub mod host; // host.rt: what hosts call, on a state that stands in a local
 mod exchange; // exchange.rt: messages told as bytes, and what an answer is held against
@@ -8,26 +9,28 @@ mod asked; // asked.rt: A, B, C, I and J, a server that is asked
 mod ran; // ran.rt: D, E and F, a server that runs
 mod alone; // alone.rt: G, H, K and L, ballots, counters, bytes and a drive
 
-fn line(letter: &[u8], ok: bool) {
-    io::write_all(1, letter);
+use std::io;
+use std::io::Print;
+
+fn line(rt: &impl Print, letter: &str, ok: bool) -> io::Result<()> {
     if ok {
-        io::write_all(1, b" ok\n");
+        println!(rt; "{letter} ok")
     } else {
-        io::write_all(1, b" bad\n");
+        println!(rt; "{letter} bad")
     }
 }
 
-fn main() {
-    line(b"A", asked::case_a());
-    line(b"B", asked::case_b());
-    line(b"C", asked::case_c());
-    line(b"D", ran::case_d());
-    line(b"E", ran::case_e());
-    line(b"F", ran::case_f());
-    line(b"G", alone::case_g());
-    line(b"H", alone::case_h());
-    line(b"I", asked::case_i());
-    line(b"J", asked::case_j());
-    line(b"K", alone::case_k());
-    line(b"L", alone::case_l());
+fn main(rt: HostRuntime) -> io::Result<()> {
+    line(&rt, "A", asked::case_a())?;
+    line(&rt, "B", asked::case_b())?;
+    line(&rt, "C", asked::case_c())?;
+    line(&rt, "D", ran::case_d())?;
+    line(&rt, "E", ran::case_e())?;
+    line(&rt, "F", ran::case_f())?;
+    line(&rt, "G", alone::case_g())?;
+    line(&rt, "H", alone::case_h())?;
+    line(&rt, "I", asked::case_i())?;
+    line(&rt, "J", asked::case_j())?;
+    line(&rt, "K", alone::case_k())?;
+    line(&rt, "L", alone::case_l())
 }

@@ -1,27 +1,19 @@
 // Case G and examples of the piece rules, of conflicts and of rule 3, each computed by the library: a line each.
 #![tactic(auto)]
+
 use rules::{Piece, Pieces};
+use std::io;
+use std::io::Print;
 
 // `next c n:`, then the refusal and the ballot.
-fn next(c: u32, n: u32) {
+fn next(rt: &impl Print, c: u32, n: u32) -> io::Result<()> {
     let b = rules::Ballot::next(c, n);
-    io::write_all(1, b"next ");
-    io::print_decimal(1, c as u64);
-    io::write_all(1, b" ");
-    io::print_decimal(1, n as u64);
-    io::write_all(1, b": ");
-    io::print_decimal(1, b.refusal as u64);
-    io::write_all(1, b" ");
-    io::print_decimal(1, b.ballot as u64);
-    io::write_all(1, b"\n");
+    println!(rt; "next {c} {n}: {} {}", b.refusal, b.ballot)
 }
 
 // A line's name, and a number.
-fn line(name: &[u8], n: u64) {
-    io::write_all(1, name);
-    io::write_all(1, b": ");
-    io::print_decimal(1, n);
-    io::write_all(1, b"\n");
+fn line(rt: &impl Print, name: &str, n: u64) -> io::Result<()> {
+    println!(rt; "{name}: {n}")
 }
 
 // The refusal that the pieces get by themselves: 12, 2 or none.
@@ -76,104 +68,118 @@ fn rising(count: u32) -> Pieces {
     }
 }
 
-fn ballots() {
-    next(0, 0);
-    next(3, 8);
-    next(2, 65529);
-    next(2, 65530);
-    next(8, 0);
-    next(4294967295, 4294967295);
-    next(7, 4294967295);
-    next(7, 65527);
+fn ballots(rt: &impl Print) -> io::Result<()> {
+    next(rt, 0, 0)?;
+    next(rt, 3, 8)?;
+    next(rt, 2, 65529)?;
+    next(rt, 2, 65530)?;
+    next(rt, 8, 0)?;
+    next(rt, 4294967295, 4294967295)?;
+    next(rt, 7, 4294967295)?;
+    next(rt, 7, 65527)
 }
 
-fn good() {
-    line(b"read", refusal(one(piece(0, 3, 0, 0))));
-    line(b"put", refusal(one(piece(3, 15, 1, -2147483648))));
-    line(b"eight rising", refusal(rising(8)));
+fn good(rt: &impl Print) -> io::Result<()> {
+    line(rt, "read", refusal(one(piece(0, 3, 0, 0))))?;
+    line(rt, "put", refusal(one(piece(3, 15, 1, -2147483648))))?;
+    line(rt, "eight rising", refusal(rising(8)))?;
     line(
-        b"two keys",
+        rt,
+        "two keys",
         refusal(two(piece(0, 3, 1, 5), piece(0, 4, 2, 2))),
-    );
+    )?;
     line(
-        b"two shards",
+        rt,
+        "two shards",
         refusal(two(piece(0, 15, 1, 5), piece(1, 0, 2, 2))),
-    );
+    )
 }
 
-fn bad() {
-    line(b"empty", refusal(rising(0)));
-    line(b"nine", refusal(rising(9)));
-    line(b"count 4,294,967,295", refusal(rising(4294967295)));
+fn bad(rt: &impl Print) -> io::Result<()> {
+    line(rt, "empty", refusal(rising(0)))?;
+    line(rt, "nine", refusal(rising(9)))?;
+    line(rt, "count 4,294,967,295", refusal(rising(4294967295)))?;
     line(
-        b"falling keys",
+        rt,
+        "falling keys",
         refusal(two(piece(0, 4, 1, 5), piece(0, 3, 2, 2))),
-    );
+    )?;
     line(
-        b"falling shards",
+        rt,
+        "falling shards",
         refusal(two(piece(1, 0, 1, 5), piece(0, 15, 2, 2))),
-    );
+    )?;
     line(
-        b"equal places",
+        rt,
+        "equal places",
         refusal(two(piece(1, 1, 1, 5), piece(1, 1, 2, 2))),
-    );
-    line(b"shard 4", refusal(one(piece(4, 0, 1, 5))));
-    line(b"key 16", refusal(one(piece(0, 16, 1, 5))));
-    line(b"kind 3", refusal(one(piece(0, 0, 3, 0))));
-    line(b"read with operand 1", refusal(one(piece(0, 3, 0, 1))));
-    line(b"read with operand -1", refusal(one(piece(0, 3, 0, -1))));
+    )?;
+    line(rt, "shard 4", refusal(one(piece(4, 0, 1, 5))))?;
+    line(rt, "key 16", refusal(one(piece(0, 16, 1, 5))))?;
+    line(rt, "kind 3", refusal(one(piece(0, 0, 3, 0))))?;
+    line(rt, "read with operand 1", refusal(one(piece(0, 3, 0, 1))))?;
+    line(rt, "read with operand -1", refusal(one(piece(0, 3, 0, -1))))?;
     line(
-        b"shard 4,000,000,000",
+        rt,
+        "shard 4,000,000,000",
         refusal(one(piece(4000000000, 0, 1, 5))),
-    );
+    )?;
     line(
-        b"key 4,294,967,295",
+        rt,
+        "key 4,294,967,295",
         refusal(two(piece(0, 3, 1, 5), piece(0, 4294967295, 1, 5))),
-    );
+    )
 }
 
 fn conflict(a: Pieces, b: Pieces) -> u64 {
     transaction::conflicts::conflict(0, a, b) as u64
 }
 
-fn conflicts() {
+fn conflicts(rt: &impl Print) -> io::Result<()> {
     let read = piece(0, 3, 0, 0);
     let put = piece(0, 3, 1, 5);
     let add = piece(0, 3, 2, 2);
     let elsewhere = piece(1, 3, 1, 5);
     line(
-        b"put and add of a key conflict",
+        rt,
+        "put and add of a key conflict",
         conflict(one(put), one(add)),
-    );
+    )?;
     line(
-        b"read and put of a key conflict",
+        rt,
+        "read and put of a key conflict",
         conflict(one(read), one(put)),
-    );
+    )?;
     line(
-        b"two reads of a key conflict",
+        rt,
+        "two reads of a key conflict",
         conflict(one(read), one(read)),
-    );
+    )?;
     line(
-        b"puts of two keys conflict",
+        rt,
+        "puts of two keys conflict",
         conflict(one(put), one(piece(0, 4, 1, 5))),
-    );
+    )?;
     line(
-        b"puts on another shard conflict",
+        rt,
+        "puts on another shard conflict",
         conflict(one(elsewhere), one(elsewhere)),
-    );
+    )?;
     line(
-        b"pieces behind the count conflict",
+        rt,
+        "pieces behind the count conflict",
         conflict(counted(read, put, 1), one(read)),
-    );
+    )?;
     line(
-        b"shards of (0,3), (1,0)",
+        rt,
+        "shards of (0,3), (1,0)",
         transaction::shards_of(two(put, piece(1, 0, 1, 5))),
-    );
+    )
 }
 
-fn main() {
-    ballots();
-    good();
-    bad();
-    conflicts();
+fn main(rt: HostRuntime) -> io::Result<()> {
+    ballots(&rt)?;
+    good(&rt)?;
+    bad(&rt)?;
+    conflicts(&rt)
 }

@@ -8,8 +8,7 @@ use drive::Drive;
 use rules::Pieces;
 
 // Ballot 0, phase 1, by the origin of `t`, in the lent place, whatever stood there. Each of these answers the refusal, or 0.
-#[unsafe(no_mangle)]
-pub extern "C" fn drobulets_drive_start(
+pub fn drobulets_drive_start(
     d: &mut Drive,
     coordinator: u32,
     t: u32,
@@ -25,8 +24,7 @@ pub extern "C" fn drobulets_drive_start(
 }
 
 // The next ballot above `floor`, phase 0, in the lent place, whatever stood there.
-#[unsafe(no_mangle)]
-pub extern "C" fn drobulets_drive_recover(
+pub fn drobulets_drive_recover(
     d: &mut Drive,
     coordinator: u32,
     t: u32,
@@ -43,8 +41,7 @@ pub extern "C" fn drobulets_drive_recover(
 }
 
 // The next ballot above its own and every promise seen, phase 0.
-#[unsafe(no_mangle)]
-pub extern "C" fn drobulets_drive_again(d: &mut Drive) -> u32
+pub fn drobulets_drive_again(d: &mut Drive) -> u32
     ensures { (result ≡ (again d.old).refusal) × (d.new ≡ (again d.old).drive) }
 {
     let o = drive_host::again(*d);
@@ -54,8 +51,7 @@ pub extern "C" fn drobulets_drive_again(d: &mut Drive) -> u32
 }
 
 // Decide with two answers in each shard.
-#[unsafe(no_mangle)]
-pub extern "C" fn drobulets_drive_move_on(d: &mut Drive) -> u32
+pub fn drobulets_drive_move_on(d: &mut Drive) -> u32
     ensures { (result ≡ (move_on d.old).refusal) × (d.new ≡ (move_on d.old).drive) }
 {
     let o = drive_host::move_on(*d);
@@ -65,8 +61,7 @@ pub extern "C" fn drobulets_drive_move_on(d: &mut Drive) -> u32
 }
 
 // A reply. Bytes that do not decode are refused first (10, 12, 11), and then the step refuses in its own order.
-#[unsafe(no_mangle)]
-pub extern "C" fn drobulets_drive_take(d: &mut Drive, input: &[u8]) -> u32
+pub fn drobulets_drive_take(d: &mut Drive, input: &[u8]) -> u32
     ensures { (result ≡ (take_reply d.old input.now).refusal)
         × (d.new ≡ (take_reply d.old input.now).drive) }
 {
@@ -91,8 +86,7 @@ pub extern "C" fn drobulets_drive_take(d: &mut Drive, input: &[u8]) -> u32
 }
 
 // The message due, at the front of the output, and the servers that it is due to.
-#[unsafe(no_mangle)]
-pub extern "C" fn drobulets_drive_due(d: &Drive, output: &mut [u8]) -> Due
+pub fn drobulets_drive_due(d: &Drive, output: &mut [u8]) -> Due
     ensures { (result ≡ (post d.now output.old).told)
         × (output.new ≡ (post d.now output.old).output) }
 {

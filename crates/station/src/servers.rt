@@ -14,8 +14,7 @@ use server_read::form::Form;
 use server_step::Considered;
 
 // A fresh server `id` in the lent place, whatever stood there. Answers the refusal, or 0.
-#[unsafe(no_mangle)]
-pub extern "C" fn drobulets_server_fresh(s: &mut Server, id: u32) -> u32
+pub fn drobulets_server_fresh(s: &mut Server, id: u32) -> u32
     ensures { (result ≡ (fresh s.old id).refusal) × (s.new ≡ (fresh s.old id).server) }
 {
     server_lent::first::fresh(s, id)
@@ -54,8 +53,7 @@ pub fn commit(s: &mut Server, f: Form, h: Considered, output: &mut [u8]) -> Answ
 
 // A message, and its reply at the front of the output. Bytes that do not decode are refused first (10, 12, 11), then the step refuses in its own order, then encoding (12, 14).
 // A Commit, or a Done as one, then runs what is ready; every other message changes the one record of its T. The form is judged once.
-#[unsafe(no_mangle)]
-pub extern "C" fn drobulets_server_take(s: &mut Server, input: &[u8], output: &mut [u8]) -> Answer
+pub fn drobulets_server_take(s: &mut Server, input: &[u8], output: &mut [u8]) -> Answer
     ensures { (result ≡ (take s.old input.now output.old).answer)
         × (s.new ≡ (take s.old input.now output.old).server)
         × (output.new ≡ (take s.old input.now output.old).output) }
@@ -103,32 +101,28 @@ pub fn runs(s: &mut Server, limit: u32) -> Counted
 }
 
 // One run.
-#[unsafe(no_mangle)]
-pub extern "C" fn drobulets_server_run(s: &mut Server) -> Counted
+pub fn drobulets_server_run(s: &mut Server) -> Counted
     ensures { (result ≡ counted (run s.old)) × (s.new ≡ (run s.old).server) }
 {
     runs(s, 1)
 }
 
 // Runs until nothing is ready.
-#[unsafe(no_mangle)]
-pub extern "C" fn drobulets_server_run_all(s: &mut Server) -> Counted
+pub fn drobulets_server_run_all(s: &mut Server) -> Counted
     ensures { (result ≡ counted (run_all s.old)) × (s.new ≡ (run_all s.old).server) }
 {
     runs(s, 64)
 }
 
 // The wanted set.
-#[unsafe(no_mangle)]
-pub extern "C" fn drobulets_server_wanted(s: &Server) -> Wants
+pub fn drobulets_server_wanted(s: &Server) -> Wants
     ensures { result ≡ wanted s.now }
 {
     server_read::wanting::wanted(s)
 }
 
 // The counter of a key. Readers judge nothing.
-#[unsafe(no_mangle)]
-pub extern "C" fn drobulets_server_counter(s: &Server, key: u32) -> Reading
+pub fn drobulets_server_counter(s: &Server, key: u32) -> Reading
     ensures { result ≡ counter s.now key }
 {
     let c = s.counters;
@@ -136,8 +130,7 @@ pub extern "C" fn drobulets_server_counter(s: &Server, key: u32) -> Reading
 }
 
 // The number at a place of the log.
-#[unsafe(no_mangle)]
-pub extern "C" fn drobulets_server_log(s: &Server, place: u32) -> LogEntry
+pub fn drobulets_server_log(s: &Server, place: u32) -> LogEntry
     ensures { result ≡ log_entry s.now place }
 {
     let l = s.log;
@@ -145,8 +138,7 @@ pub extern "C" fn drobulets_server_log(s: &Server, place: u32) -> LogEntry
 }
 
 // A result of the number `t`, in the order of its pieces on this server's shard.
-#[unsafe(no_mangle)]
-pub extern "C" fn drobulets_server_result(s: &Server, t: u32, place: u32) -> Reading
+pub fn drobulets_server_result(s: &Server, t: u32, place: u32) -> Reading
     ensures { result ≡ result_reading s.now t place }
 {
     let i = door::readings::place_of(t);

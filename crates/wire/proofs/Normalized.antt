@@ -2,13 +2,13 @@
 use mathlib.Core.Path.{◌≡◌, refl, ap, ◌∙◌}
 use mathlib.Core.Bool.{Bool, true, false, cond}
 use mathlib.Core.List.{List, [], ◌∷◌, ◌++◌, map}
-use Prim.Native.Nat.{ℕ, zero, suc, ◌+◌, ◌-◌, ◌≤◌, ◌<◌, ◌^◌}
+use Prim.Native.Nat.{ℕ, zero, suc, ◌-◌, ◌≤◌, ◌<◌, ◌^◌}
 use native.Mathlib.Omega.{arith}
 use lib.ListN.{length, take, replicate, length-map}
 use lib.Seq.{take_at, length-take-le}
 use borrow.Author.Tests.{le-leb}
 use Rattle.xdr.specs.Word.{be}
-use Rattle.xdr.specs.Form.{Form, u32, u64, int, flag as bool, ◌then◌, when, flat, All, count, rows, used}
+use Rattle.xdr.specs.Form.{Form, u32, u64, int, flag as bool, ◌then◌, when, flat, All, rows}
 use Rattle.rules.specs.declared.Piece.{Piece}
 use Rattle.rules.specs.declared.Pieces.{Pieces}
 use Rattle.rules.specs.declared.Set.{Set}

@@ -13,7 +13,7 @@ use mir.Syntax.{w32}
 use mir.Val.{to_z}
 use borrow.Author.Tests.{lt-leb}
 use Rattle.xdr.specs.Read.{Got, judged}
-use Rattle.xdr.specs.Form.{Form, int, flag as bool, bit, ◌then◌, then_by, when}
+use Rattle.xdr.specs.Form.{Form, int, flag as bool, bit, then_by, when}
 use Rattle.xdr.proofs.Windows.{Windowed, wider, u32-window, u64-window, by_window, then_window, cost, when_window, only-window, as_window, rows_window}
 use Rattle.rules.specs.declared.Piece.{Piece}
 use Rattle.rules.specs.declared.Set.{Set}
@@ -26,7 +26,7 @@ use Rattle.rules.specs.Values.{no_value, no_values}
 use Rattle.wire.specs.declared.Message.{Message}
 use Rattle.wire.specs.declared.Shape.{Shape}
 use Rattle.wire.specs.Codes.{shape_of}
-use Rattle.wire.specs.Parts.{piece, pieces, set4, value, values, maybe_word, maybe_vote, prepared}
+use Rattle.wire.specs.Parts.{piece, pieces, set4, value, values, maybe_word, maybe_vote}
 use Rattle.wire.specs.Bytes.{body, known, code, bytes, with_body, at_front, ended, decoded_as, decode}
 use Rattle.wire.proofs.Longest.{most_small, cost_le}
 

@@ -13,7 +13,7 @@ use lib.Seq.{take-take}
 use borrow.Author.Tests.{leb-true}
 use Rattle.xdr.specs.Word.{value}
 use Rattle.xdr.specs.Read.{Got, judged, got32, got64, got32-stay, got32-short, got32-read}
-use Rattle.xdr.specs.Form.{Form, u32, u64, flag, count, bit, then_by, ◌then◌, when, only, only-passes, many, many-get, rows, pad}
+use Rattle.xdr.specs.Form.{Form, u32, u64, count, bit, then_by, ◌then◌, when, only, only-passes, many, many-get, rows, pad}
 use Rattle.xdr.specs.declared.Cursor.{Cursor}
 
 -- the reader of F looks at w bytes from its cursor at most

@@ -1,6 +1,5 @@
 -- `faults::bad_numbers` meets its contract: the callees say its tests. Assumes nothing.
 use Rattle.wire.specs.Faults.{bad_numbers}
-use borrow.Author.Rules.{rules}
 use Rattle.faults.proofs.bad_numbers.Goals as goal
 
 pub returns : goal.returns

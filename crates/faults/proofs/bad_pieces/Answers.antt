@@ -1,6 +1,5 @@
 -- `faults::bad_pieces` meets its contract: pieces are judged where the code has them. Assumes nothing.
 use Rattle.wire.specs.Faults.{bad_pieces}
-use borrow.Author.Rules.{rules}
 use Rattle.faults.proofs.bad_pieces.Goals as goal
 
 pub returns-then-shape : goal.returns-then-shape

@@ -1,6 +1,5 @@
 -- `faults::bad_sets` meets its contract: the callees say its tests. Assumes nothing.
 use Rattle.wire.specs.Faults.{bad_sets}
-use borrow.Author.Rules.{rules}
 use Rattle.faults.proofs.bad_sets.Goals as goal
 
 pub returns : goal.returns

@@ -1,5 +1,4 @@
 -- `faults::bad_where` meets its contract: a set that is not there is not judged. Assumes nothing.
-use borrow.Author.Rules.{rules}
 use Rattle.faults.proofs.bad_where.Goals as goal
 
 pub returns-then-there : goal.returns-then-there

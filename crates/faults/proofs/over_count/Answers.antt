@@ -1,6 +1,5 @@
 -- `faults::over_count` meets its contract: the callees say its two tests. Assumes nothing.
 use Rattle.wire.specs.Faults.{over_count}
-use borrow.Author.Rules.{rules}
 use Rattle.faults.proofs.over_count.Goals as goal
 
 pub returns : goal.returns

@@ -2,7 +2,6 @@
 use mathlib.Core.Path.{ap, sym}
 use Prim.Native.Nat.{ℕ}
 use native.Mathlib.Omega.{arith}
-use borrow.Author.Rules.{rules}
 use lib.Dec.{eqb}
 use Rattle.masks.proofs.Digits.{shifted, bit_past}
 use Rattle.masks.proofs.has.Goals as goal

@@ -1,6 +1,5 @@
 -- `masks::insert` meets its contract. Assumes nothing.
 use mathlib.Core.Path.{ap}
-use borrow.Author.Rules.{rules}
 use lib.Bits.{bit_or}
 use Rattle.masks.specs.Bits.{insert}
 use Rattle.masks.proofs.Digits.{one_shifted}

@@ -1,5 +1,4 @@
 -- `masks::put` meets its contract. Assumes nothing.
-use borrow.Author.Rules.{rules}
 use Rattle.masks.proofs.put.Goals as goal
 
 pub returns-then-b : goal.returns-then-b

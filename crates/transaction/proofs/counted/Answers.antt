@@ -1,5 +1,4 @@
 -- `transaction::counted` meets its contract. Assumes nothing.
-use borrow.Author.Rules.{rules}
 use Rattle.transaction.proofs.counted.Goals as goal
 
 pub returns-then-b : goal.returns-then-b

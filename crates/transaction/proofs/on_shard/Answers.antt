@@ -1,7 +1,6 @@
 -- `transaction::on_shard` meets its contract. Assumes nothing.
 use mathlib.Core.Path.{refl}
 use Rattle.rules.specs.Pieces.{on_shard}
-use borrow.Author.Rules.{rules}
 use Rattle.transaction.proofs.on_shard.Goals as goal
 
 pub returns : goal.returns

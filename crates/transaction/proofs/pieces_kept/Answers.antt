@@ -1,6 +1,5 @@
 -- `transaction::pieces_kept` meets its contract. Assumes nothing.
 use Rattle.rules.proofs.TouchedWord.{kept-touched}
-use borrow.Author.Rules.{rules}
 use Rattle.transaction.proofs.pieces_kept.Goals as goal
 
 pub returns : goal.returns

@@ -1,13 +1,8 @@
 -- `transaction::same_pieces` meets its contract: the pieces passed are the same. Assumes nothing.
 use Prim.Native.Nat.{◌-◌, ◌≤◌}
 use mathlib.Core.Path.{◌≡◌}
-use native.Mathlib.Omega.{arith}
-use lib.Dec.{eqb}
 use Rattle.masks.specs.Folds.{all_below}
-use Rattle.masks.proofs.Bools.{not_yes, not_no}
-use Rattle.masks.proofs.Turns.{all_none, all-step}
-use Rattle.rules.specs.Pieces.{same_entry, same_pieces}
-use borrow.Author.Rules.{rules}
+use Rattle.rules.specs.Pieces.{same_entry}
 use Rattle.transaction.proofs.same_pieces.Given as goal
 
 abbrev pub invariant-loop-i : goal.invariant-loop-i

@@ -1,5 +1,4 @@
 -- `transaction::shards_of` meets its contract: the word holds the shards of the pieces passed. Assumes nothing.
-use Prim.Native.Nat.{◌-◌, ◌≤◌}
 use mathlib.Core.Path.{◌≡◌, ap, ◌∙◌}
 use native.Mathlib.Omega.{arith}
 use Rattle.rules.proofs.OnePass.{shards_passed, shards-none, shards-step, shards-all}

@@ -1,9 +1,7 @@
 -- `transaction::shards_of` meets its contract: the word holds the shards of the pieces passed. Assumes nothing.
 use Prim.Native.Nat.{◌-◌, ◌≤◌}
-use mathlib.Core.Path.{◌≡◌, ap, ◌∙◌}
-use native.Mathlib.Omega.{arith}
-use Rattle.rules.proofs.OnePass.{shards_passed, shards-none, shards-step, shards-all}
-use borrow.Author.Rules.{rules}
+use mathlib.Core.Path.{◌≡◌}
+use Rattle.rules.proofs.OnePass.{shards_passed}
 use Rattle.transaction.proofs.shards_of.Given as goal
 
 abbrev pub invariant-loop-i : goal.invariant-loop-i

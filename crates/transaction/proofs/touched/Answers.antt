@@ -6,9 +6,8 @@ use lib.Dec.{leb}
 use Rattle.rules.proofs.OnePass.{shards_passed, shards-none, shards-step}
 use mathlib.Core.Bool.{true, false, ◌&&◌}
 use native.Mathlib.Omega.{arith}
-use Rattle.rules.proofs.TouchedWord.{last_place, last_none, last_step, entry-rises, walked}
+use Rattle.rules.proofs.TouchedWord.{last_none, last_step, entry-rises, walked}
 use Rattle.masks.specs.Folds.{all_below}
-use Prim.Native.Nat.{◌-◌, ◌≤◌}
 use Rattle.rules.specs.Pieces.{entry_kept, pieces_kept}
 use Rattle.masks.proofs.Turns.{all_none, all-step}
 use Rattle.masks.proofs.Bools.{and_yes_r, not_yes, not_no}

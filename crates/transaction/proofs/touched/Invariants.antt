@@ -1,18 +1,10 @@
 -- `transaction::touched` meets its contract: the word holds the shards of the pieces passed, and `kept` says whether they keep rule 2. Assumes nothing.
-use mathlib.Core.Path.{◌≡◌, refl, sym, ap, ◌∙◌}
-use borrow.Author.Tests.{leb-true, lt-ltb}
-use Rattle.rules.specs.Pieces.{touched_by}
-use lib.Dec.{leb}
-use Rattle.rules.proofs.OnePass.{shards_passed, shards-none, shards-step}
-use mathlib.Core.Bool.{true, false, ◌&&◌}
-use native.Mathlib.Omega.{arith}
-use Rattle.rules.proofs.TouchedWord.{last_place, last_none, last_step, entry-rises, walked}
+use mathlib.Core.Path.{◌≡◌}
+use Rattle.rules.proofs.OnePass.{shards_passed}
+use Rattle.rules.proofs.TouchedWord.{last_place}
 use Rattle.masks.specs.Folds.{all_below}
 use Prim.Native.Nat.{◌-◌, ◌≤◌}
-use Rattle.rules.specs.Pieces.{entry_kept, pieces_kept}
-use Rattle.masks.proofs.Turns.{all_none, all-step}
-use Rattle.masks.proofs.Bools.{and_yes_r, not_yes, not_no}
-use borrow.Author.Rules.{rules}
+use Rattle.rules.specs.Pieces.{entry_kept}
 use Rattle.transaction.proofs.touched.Given as goal
 
 abbrev pub invariant-loop-i : goal.invariant-loop-i

@@ -1,10 +1,9 @@
 -- `transaction::touches` meets its contract: the pieces passed touch the shard. Assumes nothing.
-use Prim.Native.Nat.{◌-◌, ◌≤◌}
-use mathlib.Core.Path.{◌≡◌, ap, ◌∙◌}
+use mathlib.Core.Path.{ap, ◌∙◌}
 use native.Mathlib.Omega.{arith}
 use Rattle.masks.specs.Folds.{any_below}
 use Rattle.masks.proofs.Turns.{any_none, any_step}
-use Rattle.rules.specs.Pieces.{on_shard, touches}
+use Rattle.rules.specs.Pieces.{touches}
 use borrow.Author.Rules.{rules}
 use Rattle.transaction.proofs.touches.Goals as goal
 

@@ -1,11 +1,8 @@
 -- `transaction::touches` meets its contract: the pieces passed touch the shard. Assumes nothing.
 use Prim.Native.Nat.{◌-◌, ◌≤◌}
-use mathlib.Core.Path.{◌≡◌, ap, ◌∙◌}
-use native.Mathlib.Omega.{arith}
+use mathlib.Core.Path.{◌≡◌}
 use Rattle.masks.specs.Folds.{any_below}
-use Rattle.masks.proofs.Turns.{any_none, any_step}
-use Rattle.rules.specs.Pieces.{on_shard, touches}
-use borrow.Author.Rules.{rules}
+use Rattle.rules.specs.Pieces.{on_shard}
 use Rattle.transaction.proofs.touches.Given as goal
 
 abbrev pub invariant-loop-i : goal.invariant-loop-i

@@ -1,6 +1,5 @@
 -- A bool is a number that is 0 or 1: the judge notes any other. Assumes nothing.
 use Rattle.xdr.specs.Form.{flag, bit_one}
-use borrow.Author.Rules.{rules}
 use Rattle.xdr.proofs.get_bool.Goals as goal
 
 pub returns : goal.returns

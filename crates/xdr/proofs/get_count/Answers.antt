@@ -1,6 +1,5 @@
 -- A count is a number of at most 8: the judge notes any other, and the value is then 0. Assumes nothing.
 use borrow.Author.Tests.{le-leb, lt-leb}
-use borrow.Author.Rules.{rules}
 use Rattle.xdr.proofs.get_count.Goals as goal
 
 pub returns-then-n-le8 : goal.returns-then-n-le8

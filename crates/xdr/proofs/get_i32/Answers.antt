@@ -4,7 +4,6 @@ use mir.Syntax.{w32}
 use mir.Val.{to_z}
 use mir.Facts.{to_z-of_z}
 use Rattle.xdr.specs.Form.{int}
-use borrow.Author.Rules.{rules}
 use Rattle.xdr.proofs.get_i32.Goals as goal
 
 pub returns : goal.returns

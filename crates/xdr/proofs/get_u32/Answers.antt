@@ -1,6 +1,5 @@
 -- Four bytes are read where no fault is noted and four are left. Assumes nothing.
 use native.Mathlib.Omega.{arith}
-use borrow.Author.Rules.{rules}
 use Rattle.xdr.specs.Read.{got32-stay, got32-short, got32-read}
 use Rattle.xdr.specs.Form.{u32}
 use Rattle.xdr.specs.Reading.{reads_got}

@@ -1,6 +1,5 @@
 -- Eight bytes are the upper word and then the lower. Assumes nothing.
 use Rattle.xdr.specs.Read.{got64}
-use borrow.Author.Rules.{rules}
 use Rattle.xdr.proofs.get_u64.Goals as goal
 
 pub returns : goal.returns

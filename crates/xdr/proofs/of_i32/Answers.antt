@@ -1,6 +1,5 @@
 -- The bits of a signed number, by way of 64 bits: each step is a law of Signed. Assumes nothing.
 use Rattle.xdr.proofs.Signed.{of-cast, of-add, of-cast64, of-done}
-use borrow.Author.Rules.{rules}
 use Rattle.xdr.proofs.of_i32.Goals as goal
 
 pub overflow_cast-y : goal.overflow_cast-y

@@ -6,7 +6,6 @@ use mir.Val.{bool_byte}
 use Rattle.xdr.specs.Word.{be}
 use Rattle.xdr.specs.Over.{over}
 use Rattle.xdr.specs.Form.{flag, bit_of}
-use borrow.Author.Rules.{rules}
 use Rattle.xdr.proofs.put_bool.Goals as goal
 
 same : (b : Bool) → bool_byte b ≡ bit_of b

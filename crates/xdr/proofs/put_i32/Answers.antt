@@ -7,7 +7,6 @@ use mir.Facts.{to_z-of_z}
 use Rattle.xdr.specs.Word.{be}
 use Rattle.xdr.specs.Over.{over}
 use Rattle.xdr.specs.Form.{int}
-use borrow.Author.Rules.{rules}
 use Rattle.xdr.proofs.put_i32.Goals as goal
 
 pub returns : goal.returns

@@ -4,7 +4,6 @@ use lib.ListN.{length-set}
 use lib.Seq.{sets-eq}
 use Rattle.xdr.specs.Over.{over}
 use mathlib.Core.List.{[], ◌∷◌}
-use borrow.Author.Rules.{rules}
 use Rattle.xdr.proofs.put_low_first_8.Goals as goal
 
 pub bounds-out-1 : goal.bounds-out-1

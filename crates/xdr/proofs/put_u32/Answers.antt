@@ -1,6 +1,5 @@
 -- The bytes of a number, the highest first, are those of the number turned, the lowest first. Assumes nothing.
 use Rattle.xdr.specs.Word.{be-turned}
-use borrow.Author.Rules.{rules}
 use Rattle.xdr.proofs.put_u32.Goals as goal
 
 pub returns : goal.returns

@@ -1,7 +1,6 @@
 -- The bytes of a number, the highest first, are those of its two words turned and changed about, the lowest first. Assumes nothing.
 use mathlib.Core.Path.{◌∙◌}
 use Rattle.xdr.specs.Word.{be-turned_8}
-use borrow.Author.Rules.{rules}
 use Rattle.xdr.proofs.put_u64.Goals as goal
 
 pub returns : goal.returns

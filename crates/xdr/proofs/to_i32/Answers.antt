@@ -1,6 +1,5 @@
 -- The number that bits say, by way of 64 bits: each step is a law of Signed. Assumes nothing.
 use Rattle.xdr.proofs.Signed.{to-sub, to-cast, to-done}
-use borrow.Author.Rules.{rules}
 use Rattle.xdr.proofs.to_i32.Goals as goal
 
 pub overflow_sub-result : goal.overflow_sub-result

@@ -1,7 +1,6 @@
 -- Four elements read one by one, put together by the lowest first and turned, are the four bytes from the place. Assumes nothing.
 use mathlib.Core.Path.{◌∙◌}
 use Rattle.xdr.specs.Word.{turned-digits, word-four}
-use borrow.Author.Rules.{rules}
 use Rattle.xdr.proofs.word_at.Goals as goal
 
 pub returns : goal.returns

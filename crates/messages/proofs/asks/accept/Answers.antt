@@ -1,5 +1,4 @@
 -- `asks::accept` meets its contract. Assumes nothing.
-use borrow.Author.Rules.{rules}
 use Rattle.messages.proofs.asks.accept.Goals as goal
 
 pub returns : goal.returns

@@ -1,5 +1,4 @@
 -- `asks::commit` meets its contract. Assumes nothing.
-use borrow.Author.Rules.{rules}
 use Rattle.messages.proofs.asks.commit.Goals as goal
 
 pub returns : goal.returns

@@ -1,5 +1,4 @@
 -- `asks::prepare` meets its contract. Assumes nothing.
-use borrow.Author.Rules.{rules}
 use Rattle.messages.proofs.asks.prepare.Goals as goal
 
 pub returns : goal.returns

@@ -1,5 +1,4 @@
 -- `replies::done` meets its contract. Assumes nothing.
-use borrow.Author.Rules.{rules}
 use Rattle.messages.proofs.replies.done.Goals as goal
 
 pub returns : goal.returns

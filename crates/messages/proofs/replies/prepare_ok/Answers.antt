@@ -1,5 +1,4 @@
 -- `replies::prepare_ok` meets its contract. Assumes nothing.
-use borrow.Author.Rules.{rules}
 use Rattle.messages.proofs.replies.prepare_ok.Goals as goal
 
 pub returns : goal.returns

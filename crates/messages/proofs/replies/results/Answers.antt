@@ -1,5 +1,4 @@
 -- `replies::results` meets its contract. Assumes nothing.
-use borrow.Author.Rules.{rules}
 use Rattle.messages.proofs.replies.results.Goals as goal
 
 pub returns : goal.returns

@@ -2,7 +2,6 @@
 use mir.Syntax.{w32}
 use mir.Facts.{to_z-of_z}
 use Rattle.wire.specs.Parts.{piece}
-use borrow.Author.Rules.{rules}
 use Rattle.parts.proofs.get_arrays.get_piece.Goals as goal
 
 pub returns : goal.returns

@@ -3,7 +3,6 @@ use Rattle.xdr.specs.Reading.{reads_when, reads_none, count_small}
 use Rattle.rules.specs.Pieces.{no_pieces}
 use Rattle.wire.specs.Parts.{pieces}
 use Rattle.parts.proofs.ReadParts.{pieces-read}
-use borrow.Author.Rules.{rules}
 use Rattle.parts.proofs.get_arrays.get_pieces_if.Goals as goal
 
 pub get_piece_list-e-requires : goal.get_piece_list-e-requires

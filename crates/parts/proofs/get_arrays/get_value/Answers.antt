@@ -2,7 +2,6 @@
 use mir.Syntax.{w32}
 use mir.Facts.{to_z-of_z}
 use Rattle.parts.proofs.ReadParts.{value_read}
-use borrow.Author.Rules.{rules}
 use Rattle.parts.proofs.get_arrays.get_value.Goals as goal
 
 pub returns : goal.returns

@@ -1,8 +1,7 @@
 -- The entries so far are read, and blank ones stand behind them. Assumes nothing.
 use mathlib.Core.Path.{◌≡◌, refl}
-use Prim.Native.Nat.{◌≤◌, ◌-◌}
 use native.Mathlib.Omega.{arith}
-use Rattle.xdr.specs.Array.{Filled, filled_more}
+use Rattle.xdr.specs.Array.{filled_more}
 use Rattle.rules.specs.Values.{no_value}
 use Rattle.wire.specs.Parts.{value}
 use Rattle.parts.proofs.get_arrays.get_value_list.Goals as goal

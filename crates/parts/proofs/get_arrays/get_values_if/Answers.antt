@@ -3,7 +3,6 @@ use Rattle.xdr.specs.Reading.{reads_when, reads_none, count_small}
 use Rattle.rules.specs.Values.{no_values}
 use Rattle.wire.specs.Parts.{values}
 use Rattle.parts.proofs.ReadParts.{values-read}
-use borrow.Author.Rules.{rules}
 use Rattle.parts.proofs.get_arrays.get_values_if.Goals as goal
 
 pub get_value_list-e-requires : goal.get_value_list-e-requires

@@ -1,6 +1,5 @@
 -- A flag, and then the ballot and the set where it is set. Assumes nothing.
 use Rattle.parts.proofs.ReadParts.{maybe-vote-read}
-use borrow.Author.Rules.{rules}
 use Rattle.parts.proofs.get_parts.get_maybe_vote.Goals as goal
 
 pub returns : goal.returns

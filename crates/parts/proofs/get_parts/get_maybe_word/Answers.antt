@@ -1,6 +1,5 @@
 -- A flag, and then the word where it is set. Assumes nothing.
 use Rattle.parts.proofs.ReadParts.{maybe-word-read}
-use borrow.Author.Rules.{rules}
 use Rattle.parts.proofs.get_parts.get_maybe_word.Goals as goal
 
 pub returns : goal.returns

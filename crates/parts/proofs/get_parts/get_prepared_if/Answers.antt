@@ -2,7 +2,6 @@
 use Rattle.xdr.specs.Reading.{reads_when, reads_none, reads_then}
 use Rattle.rules.specs.Maybe.{no_word, no_vote}
 use Rattle.wire.specs.Parts.{prepared}
-use borrow.Author.Rules.{rules}
 use Rattle.parts.proofs.get_parts.get_prepared_if.Goals as goal
 
 pub returns-then-has : goal.returns-then-has

@@ -1,6 +1,5 @@
 -- Four readers in a row read a set. Assumes nothing.
 use Rattle.wire.specs.Parts.{set4}
-use borrow.Author.Rules.{rules}
 use Rattle.parts.proofs.get_parts.get_set.Goals as goal
 
 pub returns : goal.returns

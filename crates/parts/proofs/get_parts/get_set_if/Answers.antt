@@ -2,7 +2,6 @@
 use Rattle.xdr.specs.Reading.{reads_when, reads_none}
 use Rattle.rules.specs.Sets.{no_set}
 use Rattle.wire.specs.Parts.{set4}
-use borrow.Author.Rules.{rules}
 use Rattle.parts.proofs.get_parts.get_set_if.Goals as goal
 
 pub returns-then-has : goal.returns-then-has

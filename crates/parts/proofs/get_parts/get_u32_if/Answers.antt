@@ -1,6 +1,5 @@
 -- The flag decides. Assumes nothing.
 use Rattle.xdr.specs.Reading.{reads_when}
-use borrow.Author.Rules.{rules}
 use Rattle.parts.proofs.get_parts.get_u32_if.Goals as goal
 
 pub returns-then-has : goal.returns-then-has

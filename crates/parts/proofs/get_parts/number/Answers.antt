@@ -3,7 +3,6 @@ use mathlib.Core.Path.{◌≡◌, refl}
 use mathlib.Core.Bool.{Bool, true, false}
 use mir.Val.{bool_byte}
 use Rattle.rules.specs.Flags.{flag}
-use borrow.Author.Rules.{rules}
 use Rattle.parts.proofs.get_parts.number.Goals as goal
 
 same : (b : Bool) → bool_byte b ≡ flag b

@@ -8,7 +8,6 @@ use Rattle.rules.specs.Pieces.{no_piece}
 use Rattle.wire.specs.Parts.{piece}
 use Rattle.wire.proofs.Lengths.{piece-length}
 use Rattle.parts.proofs.WriteParts.{flag-room, piece-put}
-use borrow.Author.Rules.{rules}
 use Rattle.parts.proofs.put_arrays.put_piece_if.Goals as goal
 
 pub put_u32_at-a-requires : goal.put_u32_at-a-requires

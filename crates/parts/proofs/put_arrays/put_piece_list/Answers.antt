@@ -1,10 +1,7 @@
 -- The entries so far stand at the place, and the next one is written after them while there is one. Assumes nothing.
-use mathlib.Core.Path.{◌≡◌, refl, ◌∙◌}
-use Prim.Native.Nat.{◌≤◌, ◌-◌}
+use mathlib.Core.Path.{refl, ◌∙◌}
 use native.Mathlib.Omega.{arith}
-use lib.ListN.{length, take}
-use Rattle.xdr.specs.Over.{Put, put-none}
-use Rattle.xdr.specs.Form.{flat}
+use Rattle.xdr.specs.Over.{put-none}
 use Rattle.rules.specs.Pieces.{no_piece}
 use Rattle.wire.specs.Parts.{piece}
 use Rattle.wire.proofs.Lengths.{piece-length}

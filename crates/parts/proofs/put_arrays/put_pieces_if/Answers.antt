@@ -1,11 +1,8 @@
 -- The flag decides; the count is written, and then the entries. Assumes nothing.
-use mathlib.Core.Path.{sym, ◌∙◌}
 use native.Mathlib.Omega.{arith}
-use lib.ListN.{length-map}
 use Rattle.xdr.specs.Over.{put-none, put_by}
 use Rattle.xdr.specs.Word.{be-length}
 use Rattle.parts.proofs.WriteParts.{pieces_room, pieces-put}
-use borrow.Author.Rules.{rules}
 use Rattle.parts.proofs.put_arrays.put_pieces_if.Goals as goal
 
 pub put_u32_at-a-requires : goal.put_u32_at-a-requires

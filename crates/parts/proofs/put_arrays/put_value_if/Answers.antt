@@ -7,7 +7,6 @@ use Rattle.rules.specs.Values.{no_value}
 use Rattle.wire.specs.Parts.{value}
 use Rattle.wire.proofs.Lengths.{int-length, value-length}
 use Rattle.parts.proofs.WriteParts.{flag-room, value-put}
-use borrow.Author.Rules.{rules}
 use Rattle.parts.proofs.put_arrays.put_value_if.Goals as goal
 
 pub put_i32_at-a-requires : goal.put_i32_at-a-requires

@@ -1,14 +1,10 @@
 -- The entries so far stand at the place, and the next one is written after them while there is one. Assumes nothing.
-use mathlib.Core.Path.{◌≡◌, refl, ◌∙◌}
+use mathlib.Core.Path.{◌≡◌}
 use Prim.Native.Nat.{◌≤◌, ◌-◌}
-use native.Mathlib.Omega.{arith}
 use lib.ListN.{length, take}
-use Rattle.xdr.specs.Over.{Put, put-none}
+use Rattle.xdr.specs.Over.{Put}
 use Rattle.xdr.specs.Form.{flat}
-use Rattle.rules.specs.Values.{no_value}
 use Rattle.wire.specs.Parts.{value}
-use Rattle.wire.proofs.Lengths.{value-length}
-use Rattle.parts.proofs.WriteParts.{entry-room, entry-put, entries-all}
 use Rattle.parts.proofs.put_arrays.put_value_list.Given as goal
 
 abbrev pub invariant-loop-i : goal.invariant-loop-i

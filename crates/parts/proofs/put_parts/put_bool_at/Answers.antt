@@ -3,7 +3,6 @@ use mathlib.Core.Path.{refl}
 use Rattle.xdr.specs.Over.{put-part}
 use Rattle.xdr.specs.Word.{be}
 use Rattle.xdr.specs.Form.{flag as bool}
-use borrow.Author.Rules.{rules}
 use Rattle.parts.proofs.put_parts.put_bool_at.Goals as goal
 
 pub returns : goal.returns

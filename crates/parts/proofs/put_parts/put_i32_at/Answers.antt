@@ -8,7 +8,6 @@ use mir.Facts.{to_z-of_z}
 use Rattle.xdr.specs.Over.{over, put-part}
 use Rattle.xdr.specs.Word.{be}
 use Rattle.xdr.specs.Form.{int}
-use borrow.Author.Rules.{rules}
 use Rattle.parts.proofs.put_parts.put_i32_at.Goals as goal
 
 pub returns : goal.returns

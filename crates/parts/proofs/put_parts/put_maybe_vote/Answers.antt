@@ -3,7 +3,6 @@ use native.Mathlib.Omega.{arith}
 use Rattle.rules.specs.Flags.{there}
 use Rattle.wire.proofs.Lengths.{bool_length, maybe-vote-length}
 use Rattle.parts.proofs.WriteParts.{maybe-vote-put}
-use borrow.Author.Rules.{rules}
 use Rattle.parts.proofs.put_parts.put_maybe_vote.Goals as goal
 
 pub put_bool_at-a-requires : goal.put_bool_at-a-requires

@@ -3,7 +3,6 @@ use native.Mathlib.Omega.{arith}
 use Rattle.rules.specs.Flags.{there}
 use Rattle.wire.proofs.Lengths.{bool_length, maybe-word-length}
 use Rattle.parts.proofs.WriteParts.{maybe-word-put}
-use borrow.Author.Rules.{rules}
 use Rattle.parts.proofs.put_parts.put_maybe_word.Goals as goal
 
 pub put_bool_at-a-requires : goal.put_bool_at-a-requires

@@ -2,7 +2,6 @@
 use native.Mathlib.Omega.{arith}
 use lib.ListN.{length-append}
 use Rattle.xdr.specs.Over.{put-put, put-none}
-use borrow.Author.Rules.{rules}
 use Rattle.parts.proofs.put_parts.put_prepared_if.Goals as goal
 
 pub put_maybe_word-a-requires : goal.put_maybe_word-a-requires

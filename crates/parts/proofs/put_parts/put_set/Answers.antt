@@ -3,7 +3,6 @@ use mathlib.Core.Path.{refl}
 use Rattle.xdr.specs.Over.{put_next}
 use Rattle.xdr.specs.Word.{be}
 use Rattle.wire.specs.Parts.{set4}
-use borrow.Author.Rules.{rules}
 use Rattle.parts.proofs.put_parts.put_set.Goals as goal
 
 pub returns : goal.returns

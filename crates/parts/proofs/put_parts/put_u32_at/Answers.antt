@@ -2,7 +2,6 @@
 use mathlib.Core.Path.{refl}
 use Rattle.xdr.specs.Over.{put-part}
 use Rattle.xdr.specs.Word.{be}
-use borrow.Author.Rules.{rules}
 use Rattle.parts.proofs.put_parts.put_u32_at.Goals as goal
 
 pub returns : goal.returns

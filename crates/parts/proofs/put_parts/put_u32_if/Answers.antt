@@ -2,7 +2,6 @@
 use mathlib.Core.Path.{refl}
 use Rattle.xdr.specs.Over.{put-part, put-none, part_room}
 use Rattle.xdr.specs.Word.{be}
-use borrow.Author.Rules.{rules}
 use Rattle.parts.proofs.put_parts.put_u32_if.Goals as goal
 
 pub put_u32-requires : goal.put_u32-requires

@@ -3,7 +3,6 @@ use mathlib.Core.Path.{sym, ◌∙◌}
 use native.Mathlib.Omega.{arith}
 use Rattle.rules.proofs.NextIsSmallest.{not-past}
 use Rattle.rules.specs.Ballots.{next_ballot, next_refusal}
-use borrow.Author.Rules.{rules}
 use Rattle.rules.proofs.Ballot.next.Goals as goal
 
 pub returns-then-stranger : goal.returns-then-stranger

@@ -1,7 +1,6 @@
 -- `rules::ballots::may_use` meets its contract. Assumes nothing.
 use borrow.Author.Tests.{eq-eqb, ne_eqb}
 use Rattle.rules.specs.Ballots.{may_use}
-use borrow.Author.Rules.{rules}
 use Rattle.rules.proofs.ballots.may_use.Goals as goal
 
 pub returns-then-b-eq0 : goal.returns-then-b-eq0

@@ -1,7 +1,6 @@
 -- `rules::ballots::next_above` meets its contract. Assumes nothing.
 use borrow.Author.Tests.{lt-ltb, le-ltb}
 use Rattle.rules.specs.Ballots.{next_above}
-use borrow.Author.Rules.{rules}
 use Rattle.rules.proofs.ballots.next_above.Goals as goal
 
 pub returns-then-floor-first : goal.returns-then-floor-first

@@ -1,6 +1,5 @@
 -- `rules::ballots::no_next` meets its contract. Assumes nothing.
 use Rattle.rules.specs.Ballots.{no_next}
-use borrow.Author.Rules.{rules}
 use Rattle.rules.proofs.ballots.no_next.Goals as goal
 
 pub returns : goal.returns

@@ -1,7 +1,6 @@
 -- `rules::sets::bad_set` meets its contract. Assumes nothing.
 use Rattle.masks.specs.Folds.{any_below}
 use Rattle.rules.specs.Sets.{word, bad_word_at, bad_set}
-use borrow.Author.Rules.{rules}
 use Rattle.rules.proofs.sets.bad_set.Goals as goal
 
 pub returns : goal.returns

@@ -1,6 +1,5 @@
 -- `rules::sets::bad_word` meets its contract. Assumes nothing.
 use Rattle.rules.specs.Sets.{bad_word}
-use borrow.Author.Rules.{rules}
 use Rattle.rules.proofs.sets.bad_word.Goals as goal
 
 pub returns : goal.returns

@@ -2,7 +2,6 @@
 use Rattle.masks.specs.Bits.{union}
 use Rattle.masks.specs.Folds.{union_of}
 use Rattle.rules.specs.Sets.{word, members}
-use borrow.Author.Rules.{rules}
 use Rattle.rules.proofs.sets.members.Goals as goal
 
 pub returns : goal.returns

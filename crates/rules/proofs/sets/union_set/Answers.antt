@@ -1,6 +1,5 @@
 -- `rules::sets::union_set` meets its contract. Assumes nothing.
 use Rattle.rules.specs.Sets.{union_set}
-use borrow.Author.Rules.{rules}
 use Rattle.rules.proofs.sets.union_set.Goals as goal
 
 pub returns : goal.returns

@@ -1,6 +1,5 @@
 -- `transaction::conflicts::clashes` meets its contract. Assumes nothing.
 use Rattle.rules.specs.Keys.{clashes}
-use borrow.Author.Rules.{rules}
 use Rattle.transaction.proofs.conflicts.clashes.Goals as goal
 
 pub returns : goal.returns

@@ -1,6 +1,5 @@
 -- `transaction::conflicts::conflict` meets its contract. Assumes nothing.
 use Rattle.rules.proofs.ConflictIs.{conflict-keys}
-use borrow.Author.Rules.{rules}
 use Rattle.transaction.proofs.conflicts.conflict.Goals as goal
 
 pub returns : goal.returns

@@ -1,9 +1,7 @@
 -- `transaction::conflicts::keys_on` meets its contract: the words hold the keys of the pieces passed, and behind those in use there are none. Assumes nothing.
-use Prim.Native.Nat.{◌-◌, ◌≤◌}
 use mathlib.Core.Path.{◌≡◌}
 use native.Mathlib.Omega.{arith}
-use Rattle.rules.specs.Pieces.{used}
-use Rattle.rules.proofs.OnePass.{used_le, used-counted, on_counted, keys_passed, written_passed, keys_none, written_none, keys_step, written_step, keys-used}
+use Rattle.rules.proofs.OnePass.{used_le, used-counted, on_counted, keys_none, written_none, keys_step, written_step, keys-used}
 use borrow.Author.Rules.{rules}
 use Rattle.transaction.proofs.conflicts.keys_on.Goals as goal
 

@@ -6,7 +6,7 @@ ghost use Rattle.wire.specs.Encoding.{encode};
 ghost use Rattle.encoding.specs.Answers.{answer};
 
 use encoding::Encoded;
-use rules::{Ballot, NextBallot};
+use rules::{NextBallot};
 use wire::{Decoded, Message};
 
 // The next ballot of coordinator `c` above `n`, or why there is none.
@@ -14,7 +14,7 @@ use wire::{Decoded, Message};
 pub extern "C" fn drobulets_next_ballot(c: u32, n: u32) -> NextBallot
     ensures { result ≡ next_ballot c n }
 {
-    Ballot::next(c, n)
+    station::by_value::drobulets_next_ballot(c, n)
 }
 
 // The message that the bytes say, or the number of the first fault and the blank message.
@@ -22,10 +22,7 @@ pub extern "C" fn drobulets_next_ballot(c: u32, n: u32) -> NextBallot
 pub extern "C" fn drobulets_decode(input: &[u8]) -> Decoded
     ensures { result ≡ decode input.now }
 {
-    if codec::is_bare(input) {
-        return codec::decode_bare(input);
-    }
-    codec::by_fields(codec::decode(input))
+    station::by_value::drobulets_decode(input)
 }
 
 // The bytes of the lent message at the front of the output, or a refusal and the output as it was lent.
@@ -34,5 +31,5 @@ pub extern "C" fn drobulets_encode(message: &Message, output: &mut [u8]) -> Enco
     ensures { (result ≡ answer (encode message.now output.old))
         × (output.new ≡ (encode message.now output.old).buffer) }
 {
-    codec::encode_lent(*message, output)
+    station::by_value::drobulets_encode(message, output)
 }
