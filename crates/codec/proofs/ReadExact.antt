@@ -24,14 +24,13 @@ use Rattle.rules.specs.Pieces.{no_piece, no_pieces}
 use Rattle.rules.specs.Sets.{no_set}
 use Rattle.rules.specs.Maybe.{no_word, no_vote}
 use Rattle.rules.specs.Values.{no_values}
-use Rattle.wire.specs.declared.Message.{Message}
 use Rattle.wire.specs.declared.Shape.{Shape}
 use Rattle.wire.specs.declared.Decoded.{Decoded}
 use Rattle.wire.specs.Codes.{shape_of}
 use Rattle.wire.specs.Messages.{message}
 use Rattle.wire.specs.Parts.{piece, pieces, set4, prepared, values}
 use Rattle.wire.specs.Bytes.{code, at_front, ended, decoded_as, decode}
-use Rattle.encoding.specs.Sections.{Front, front, front_length, Rest, rest, no_rest, joined}
+use Rattle.encoding.specs.Sections.{Front, front, Rest, rest, no_rest, joined}
 use Rattle.encoding.specs.ByKind.{bare, asked, answered, bare_shape, asked_shape, answered_shape, kind_shape}
 use Rattle.codec.specs.Exact.{word_at, is_bare, ExactAsked, ExactAnswered}
 use Rattle.encoding.proofs.ByKind.{kind_shape_lem}

@@ -1,7 +1,7 @@
 -- What each piece does to its counter, in plain numbers and both ways: a sum stays in the range exactly from -2,147,483,648 to 2,147,483,647; a result is kept exactly for an add that meets a full counter or whose
 -- sum leaves the range, and for a read of a full counter. A result of any piece is what a reading of its counter shows right after it.
 -- Assumes nothing.
-use Prim.Native.Nat.{ℕ, zero, suc, ◌≤◌}
+use Prim.Native.Nat.{ℕ, ◌≤◌}
 use mathlib.Core.Path.{◌≡◌, refl, sym, ap}
 use mathlib.Core.Bool.{Bool, true, false, cond}
 use mathlib.Core.Logic.{◌↔◌, ◌≢◌, ◌⊎◌, inl, inr, ⊎_elim}

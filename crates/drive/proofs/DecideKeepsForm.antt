@@ -6,29 +6,26 @@ use Prim.Native.Nat.{ℕ, zero, suc, ◌≤◌, ◌<◌}
 use native.Mathlib.Omega.{arith}
 use borrow.Author.Tests.{eqb-true, eq-eqb, lt-ltb, le-leb}
 use lib.Dec.{eqb, ltb, leb, lit≤}
-use lib.ListN.{get_or, set, replicate}
+use lib.ListN.{get_or, replicate}
 use Rattle.masks.specs.Bits.{In, has, none, union}
 use Rattle.masks.specs.Folds.{count_below, union_of}
 use Rattle.masks.proofs.Bools.{and_yes, and_yes-l, and_yes_r, or_yes_r, not_yes, true_and_false, then_yes, yes_then}
 use Rattle.masks.proofs.Laws.{has_in, in_has, not_has, in_lt, not_in_none}
-use Rattle.masks.proofs.FoldLaws.{in_unions, unions_cong, iter_keeps, no_all, mask_bound}
+use Rattle.masks.proofs.FoldLaws.{in_unions, unions_cong, no_all, mask_bound}
 use Rattle.rules.specs.declared.Pieces.{Pieces}
 use Rattle.rules.specs.declared.Set.{Set}
 use Rattle.rules.specs.Flags.{there, implies}
 use Rattle.rules.specs.Cluster.{server_of, bad_number, bad_coordinator}
 use Rattle.rules.specs.Ballots.{bad_ballot, may_use}
 use Rattle.rules.specs.Pieces.{pieces_kept, shards_of}
-use Rattle.rules.specs.Sets.{word, bad_set}
+use Rattle.rules.specs.Sets.{bad_set}
 use Rattle.rules.proofs.PiecesKept.{kept-is, kept-touches, kept-has-shard}
 use Rattle.rules.proofs.SetLaws.{WordKept, kept_set, word_of}
-use Rattle.wire.specs.Codes.{Done}
 use Rattle.drive.specs.declared.Answer.{Answer}
 use Rattle.drive.specs.declared.Drive.{Drive}
 use Rattle.drive.specs.Held.{no_answer, no_answers, answer_at, counted, touched, addressed, to_phase, to_phase1}
 use Rattle.drive.specs.Decide.{answered, all_answered, two_in, two_in_each, decided, has_word, has_accepted, word_in, union_in, unions, highest, decide}
 use Rattle.drive.specs.Form.{numbers_formed, ballots_formed, word_formed, accepted_formed, answer_formed, too_few, set_formed}
-use Rattle.drive.specs.Hear.{says}
-use Rattle.drive.proofs.Passed.{accepted, takes}
 use Rattle.drive.proofs.FormParts.{Formed}
 use Rattle.drive.proofs.Decided.{Decision, highest2, equal2, again1, quick3, union2, voted3, decision}
 use Rattle.drive.proofs.HighestAccepted.{highest-accepted}

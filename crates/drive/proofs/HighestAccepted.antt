@@ -1,5 +1,5 @@
 -- Document 01, "The drive", phase 0: if a counted answer holds an accepted set, the set taken to phase 2 is that of the highest accepted ballot, and of answers at one ballot that of the lowest server. Assumes nothing.
-use mathlib.Core.Path.{◌≡◌, refl, sym, ◌∙◌, ap, subst}
+use mathlib.Core.Path.{◌≡◌, refl, sym, ◌∙◌, subst}
 use mathlib.Core.Logic.{◌≢◌}
 use mathlib.Core.Bool.{Bool, true, false, cond}
 use Prim.Native.Nat.{ℕ, zero, suc, ◌≤◌, ◌<◌}

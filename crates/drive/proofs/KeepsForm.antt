@@ -28,7 +28,7 @@ use Rattle.wire.specs.Faults.{bad_numbers, bad_sets}
 use Rattle.drive.specs.declared.Answer.{Answer}
 use Rattle.drive.specs.declared.Drive.{Drive}
 use Rattle.drive.specs.declared.Moved.{Moved}
-use Rattle.drive.specs.Held.{no_answer, counted, touched, addressed, began, with_answer, with_promise}
+use Rattle.drive.specs.Held.{no_answer, touched, addressed, began, with_answer, with_promise}
 use Rattle.drive.specs.Decide.{answered, all_answered, two_in, two_in_each, decided, has_word, has_accepted, decide}
 use Rattle.drive.specs.Form.{numbers_formed, ballots_formed, word_formed, accepted_formed, answer_formed, too_few, set_formed, formed}
 use Rattle.drive.specs.Hear.{says, answer_of, settle, count, hear, moved, refused}

@@ -25,8 +25,8 @@ use Rattle.rules.specs.Values.{no_values}
 use Rattle.wire.specs.declared.Message.{Message}
 use Rattle.wire.specs.declared.Shape.{Shape}
 use Rattle.wire.specs.Codes.{shape_of, unknown}
-use Rattle.wire.specs.Parts.{piece, pieces, set4, prepared, values, maybe_word, maybe_vote}
-use Rattle.wire.specs.Bytes.{body, body_of, code, bytes, unwritable, encode_refusal}
+use Rattle.wire.specs.Parts.{piece, pieces, set4, prepared, values}
+use Rattle.wire.specs.Bytes.{body, code, bytes, unwritable, encode_refusal}
 use Rattle.wire.specs.Encoding.{Encoding, refused, written, encode}
 use Rattle.wire.proofs.Longest.{cost_le}
 use Rattle.wire.proofs.Lengths.{piece-length, set-length, values_length, maybe-word-length, maybe-vote-length}

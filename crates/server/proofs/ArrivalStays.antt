@@ -10,7 +10,7 @@ use Rattle.server.specs.declared.Record.{Record}
 use Rattle.server.specs.declared.Server.{Server}
 use Rattle.server.specs.declared.Changed.{Changed}
 use Rattle.server.specs.Held.{record_at, arrived_at}
-use Rattle.server.specs.Changes.{promised, with_arrival, with_committed, asked, arrive, pre_accepted, accepted, prepared, committed, inquired, fetched, change}
+use Rattle.server.specs.Changes.{promised, with_committed, asked, arrive, pre_accepted, accepted, prepared, committed, inquired, fetched, change}
 use Rattle.server.specs.Serve.{serve, arrival_for}
 use Rattle.server.specs.Run.{run, run_all}
 use Rattle.server.proofs.RunLeaves.{run-leaves, run_all-leaves}

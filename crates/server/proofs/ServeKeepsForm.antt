@@ -6,7 +6,7 @@ use Prim.Native.Nat.{ℕ, ◌<◌}
 use native.Mathlib.Omega.{arith}
 use borrow.Author.Tests.{eqb-true, ne_eqb, leb-true}
 use lib.Dec.{eqb, leb}
-use lib.ListN.{length, set}
+use lib.ListN.{length}
 use Rattle.masks.specs.Bits.{has, within}
 use Rattle.masks.specs.Folds.{all_below}
 use Rattle.masks.proofs.Bools.{and_yes-l, and_no_l, or_no_l, or_no_r, or_yes, not_no, true_and_false, one_no}

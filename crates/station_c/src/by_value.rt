@@ -6,7 +6,7 @@ ghost use Rattle.wire.specs.Encoding.{encode};
 ghost use Rattle.encoding.specs.Answers.{answer};
 
 use encoding::Encoded;
-use rules::{NextBallot};
+use rules::NextBallot;
 use wire::{Decoded, Message};
 
 // The next ballot of coordinator `c` above `n`, or why there is none.

@@ -1,5 +1,4 @@
 -- What is exact is read at once; the rest by sections. Assumes nothing.
-use borrow.Author.Rules.{rules}
 use Rattle.codec.proofs.decode.Goals as goal
 
 pub read_asked-requires : goal.read_asked-requires

@@ -3,7 +3,6 @@ use mathlib.Core.Path.{sym, ap, ◌∙◌}
 use Rattle.wire.specs.Encoding.{Encoding}
 use Rattle.encoding.specs.Answers.{answer}
 use Rattle.encoding.proofs.EncodeWhole.{encode-bare, encode-asked}
-use borrow.Author.Rules.{rules}
 use Rattle.codec.proofs.encode_lent.Goals as goal
 
 pub returns-then-bare : goal.returns-then-bare

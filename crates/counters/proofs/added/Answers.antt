@@ -7,7 +7,6 @@ use mir.Val.{SFits, of_z, to_z}
 use mir.Facts.{sfits_widen}
 use Rattle.counters.specs.Effects.{leaves, holding, gives, added}
 use Rattle.counters.proofs.Signed.{back, wide, summed, sum_fits, in_range}
-use borrow.Author.Rules.{rules}
 use Rattle.counters.proofs.added.Goals as goal
 
 pub returns-then-stays : goal.returns-then-stays

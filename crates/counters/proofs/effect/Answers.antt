@@ -4,7 +4,6 @@ use mathlib.Core.Path.{ap, ◌∙◌}
 use lib.IntN.{ℤ}
 use Rattle.counters.specs.Effects.{holding, gives, added, effect}
 use Rattle.counters.proofs.Signed.{back}
-use borrow.Author.Rules.{rules}
 use Rattle.counters.proofs.effect.Goals as goal
 
 pub returns-then-read : goal.returns-then-read

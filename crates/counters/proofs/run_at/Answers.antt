@@ -2,7 +2,6 @@
 -- Assumes nothing.
 use Rattle.counters.specs.InPlace.{run_at}
 use Rattle.counters.proofs.Signed.{back}
-use borrow.Author.Rules.{rules}
 use Rattle.counters.proofs.run_at.Goals as goal
 
 pub returns : goal.returns

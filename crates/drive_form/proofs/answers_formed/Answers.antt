@@ -1,6 +1,5 @@
 -- `drive_form::answers_formed` meets its contract: the callees say its tests. Assumes nothing.
 use Rattle.drive_form.specs.Parts.{answers_kept}
-use borrow.Author.Rules.{rules}
 use Rattle.drive_form.proofs.answers_formed.Goals as goal
 
 pub returns : goal.returns

@@ -1,6 +1,5 @@
 -- `drive_form::formed` meets its contract: its parts at the drive's own fields. Assumes nothing.
 use Rattle.drive_form.proofs.Parts.{formed-by}
-use borrow.Author.Rules.{rules}
 use Rattle.drive_form.proofs.formed.Goals as goal
 
 pub returns : goal.returns

@@ -1,6 +1,5 @@
 -- `drive_form::formed_by` meets its contract: the callees say its parts. Assumes nothing.
 use Rattle.drive_form.specs.Parts.{formed_by}
-use borrow.Author.Rules.{rules}
 use Rattle.drive_form.proofs.formed_by.Goals as goal
 
 pub returns : goal.returns

@@ -1,6 +1,5 @@
 -- `drive_form::further` meets its contract: the callees say what a counted answer adds, and another adds nothing. Assumes nothing.
 use Rattle.drive_form.proofs.Parts.{not_counted}
-use borrow.Author.Rules.{rules}
 use Rattle.drive_form.proofs.further.Goals as goal
 
 pub returns-then-counted : goal.returns-then-counted

@@ -1,5 +1,4 @@
 -- `drive_form::numbers_formed` meets its contract: the callees say its tests. Assumes nothing.
-use borrow.Author.Rules.{rules}
 use Rattle.drive_form.proofs.numbers_formed.Goals as goal
 
 pub returns : goal.returns

@@ -1,5 +1,4 @@
 -- `drive_form::set_formed` meets its contract: by phase. Assumes nothing.
-use borrow.Author.Rules.{rules}
 use Rattle.drive_form.proofs.set_formed.Goals as goal
 
 pub returns-then-late : goal.returns-then-late

@@ -1,6 +1,5 @@
 -- `drive_form::walk` meets its contract: after s turns the answers of the servers below s are walked. Assumes nothing.
-use Prim.Native.Nat.{◌≤◌, ◌-◌}
-use mathlib.Core.Path.{◌≡◌, ap, ◌∙◌}
+use mathlib.Core.Path.{ap, ◌∙◌}
 use borrow.Author.Rules.{rules}
 use native.Mathlib.Omega.{arith}
 use Rattle.drive_form.specs.Parts.{walked_to}

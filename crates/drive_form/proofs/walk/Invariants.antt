@@ -1,10 +1,7 @@
 -- `drive_form::walk` meets its contract: after s turns the answers of the servers below s are walked. Assumes nothing.
 use Prim.Native.Nat.{◌≤◌, ◌-◌}
-use mathlib.Core.Path.{◌≡◌, ap, ◌∙◌}
-use borrow.Author.Rules.{rules}
-use native.Mathlib.Omega.{arith}
+use mathlib.Core.Path.{◌≡◌}
 use Rattle.drive_form.specs.Parts.{walked_to}
-use Rattle.drive_form.proofs.Parts.{walked-first, walked_further}
 use Rattle.drive_form.proofs.walk.Given as goal
 
 abbrev pub invariant-loop-s : goal.invariant-loop-s

@@ -4,7 +4,7 @@ use mathlib.Core.Bool.{◌&&◌}
 use Prim.Native.Nat.{◌+◌, ◌≤◌}
 use native.Mathlib.Omega.{arith}
 use lib.Dec.{ltb, lit<}
-use lib.ListN.{length, length-map}
+use lib.ListN.{length}
 use borrow.Author.Tests.{ltb-false}
 use Rattle.wire.specs.declared.Shape.{Shape}
 use Rattle.wire.specs.Encoding.{Encoding}
@@ -21,7 +21,6 @@ use Rattle.encoding.specs.Sections.{cat}
 use Rattle.encoding.specs.ByKind.{answered_sections}
 use Rattle.encoding.proofs.WriteWhole.{none-put, section-room, section-put}
 use Rattle.encoding.proofs.EncodeWhole.{answered-length, few-values, sent-12, sent-14, sent-all}
-use borrow.Author.Rules.{rules}
 use Rattle.encoding.proofs.answered.Goals as goal
 
 pub returns-then-unwritable : goal.returns-then-unwritable

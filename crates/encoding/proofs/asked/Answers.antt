@@ -28,7 +28,6 @@ use Rattle.encoding.specs.Sections.{cat}
 use Rattle.encoding.specs.ByKind.{asked_shape, asked_sections}
 use Rattle.encoding.proofs.WriteWhole.{none-put, section-room, section-put}
 use Rattle.encoding.proofs.EncodeWhole.{asked-length, asked_small, sent-12, sent-14, sent-all}
-use borrow.Author.Rules.{rules}
 use Rattle.encoding.proofs.asked.Goals as goal
 
 pub returns-then-count-gt8 : goal.returns-then-count-gt8

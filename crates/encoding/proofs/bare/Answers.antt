@@ -11,7 +11,6 @@ use Rattle.encoding.specs.Sections.{cat}
 use Rattle.encoding.specs.ByKind.{bare_sections}
 use Rattle.encoding.proofs.WriteWhole.{cleared, none-put, section-room, section-put}
 use Rattle.encoding.proofs.EncodeWhole.{bare-length, sent-14, sent-all}
-use borrow.Author.Rules.{rules}
 use Rattle.encoding.proofs.bare.Goals as goal
 
 pub returns-then-out-lt8 : goal.returns-then-out-lt8

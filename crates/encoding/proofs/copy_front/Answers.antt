@@ -1,9 +1,9 @@
 -- The bytes so far stand at the front, and the rest is as it was. Assumes nothing.
 use mathlib.Core.Path.{◌≡◌, refl, ap, ◌∙◌}
 use mathlib.Core.List.{List}
-use Prim.Native.Nat.{ℕ, ◌≤◌, ◌-◌}
+use Prim.Native.Nat.{ℕ}
 use native.Mathlib.Omega.{arith}
-use lib.ListN.{length, take, set, get_or, length-set}
+use lib.ListN.{set, get_or, length-set}
 use Rattle.xdr.specs.Over.{over}
 use Rattle.encoding.proofs.WriteWhole.{copy_more}
 use Rattle.encoding.proofs.copy_front.Goals as goal

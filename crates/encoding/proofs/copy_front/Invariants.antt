@@ -1,11 +1,8 @@
 -- The bytes so far stand at the front, and the rest is as it was. Assumes nothing.
-use mathlib.Core.Path.{◌≡◌, refl, ap, ◌∙◌}
-use mathlib.Core.List.{List}
-use Prim.Native.Nat.{ℕ, ◌≤◌, ◌-◌}
-use native.Mathlib.Omega.{arith}
-use lib.ListN.{length, take, set, get_or, length-set}
+use mathlib.Core.Path.{◌≡◌}
+use Prim.Native.Nat.{◌≤◌, ◌-◌}
+use lib.ListN.{length, take}
 use Rattle.xdr.specs.Over.{over}
-use Rattle.encoding.proofs.WriteWhole.{copy_more}
 use Rattle.encoding.proofs.copy_front.Given as goal
 
 abbrev pub invariant-loop-i : goal.invariant-loop-i

@@ -5,7 +5,6 @@ use lib.ListN.{length}
 use Rattle.xdr.specs.Word.{be-length}
 use Rattle.encoding.specs.Sections.{cat}
 use Rattle.encoding.proofs.WriteWhole.{none-put, section-room, section-put, front_sections, front_is}
-use borrow.Author.Rules.{rules}
 use Rattle.encoding.proofs.put_front.Goals as goal
 
 pub put_u32_at-a-requires : goal.put_u32_at-a-requires

@@ -1,6 +1,5 @@
 -- The header is one word. Assumes nothing.
 use Rattle.wire.specs.Bytes.{code}
-use borrow.Author.Rules.{rules}
 use Rattle.encoding.proofs.put_header.Goals as goal
 
 pub returns : goal.returns

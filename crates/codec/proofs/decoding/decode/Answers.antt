@@ -1,7 +1,6 @@
 -- The header, the front and the rest read the message; without a rest the front is all. Assumes nothing.
 use mathlib.Core.Path.{sym, ◌∙◌}
 use Rattle.codec.proofs.ReadWhole.{long-decoded, short-decoded}
-use borrow.Author.Rules.{rules}
 use Rattle.codec.proofs.decoding.decode.Goals as goal
 
 pub returns-then-has_rest : goal.returns-then-has_rest

@@ -1,7 +1,6 @@
 -- The judge notes 11 where nothing else was noted. Assumes nothing.
 use mathlib.Core.Path.{ap}
 use Rattle.xdr.specs.declared.Cursor.{Cursor}
-use borrow.Author.Rules.{rules}
 use Rattle.codec.proofs.decoding.fault_of.Goals as goal
 
 pub returns : goal.returns

@@ -1,6 +1,5 @@
 -- Five readers in a row read the front. Assumes nothing.
 use Rattle.codec.proofs.ReadWhole.{front_read}
-use borrow.Author.Rules.{rules}
 use Rattle.codec.proofs.decoding.get_front.Goals as goal
 
 pub returns : goal.returns

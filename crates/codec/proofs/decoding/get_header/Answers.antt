@@ -1,7 +1,5 @@
 -- A number whose shape is known is a code. Assumes nothing.
 use Rattle.codec.proofs.ReadWhole.{header_read}
-use Rattle.wire.specs.Bytes.{code, known}
-use borrow.Author.Rules.{rules}
 use Rattle.codec.proofs.decoding.get_header.Goals as goal
 
 pub returns-then-known : goal.returns-then-known

@@ -2,7 +2,6 @@
 use mathlib.Core.Path.{◌∙◌}
 use Rattle.codec.proofs.ReadWhole.{rest_read, long-bad, long-good}
 use Rattle.codec.proofs.ReadWhole.{rest_read}
-use borrow.Author.Rules.{rules}
 use Rattle.codec.proofs.decoding.long_message.Goals as goal
 
 pub returns-then-fault-ne0 : goal.returns-then-fault-ne0

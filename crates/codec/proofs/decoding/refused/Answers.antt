@@ -1,7 +1,6 @@
 -- The message is the blank one. Assumes nothing.
 use mathlib.Core.Path.{ap}
 use Rattle.wire.specs.declared.Message.{Message}
-use borrow.Author.Rules.{rules}
 use Rattle.codec.proofs.decoding.refused.Goals as goal
 
 pub returns : goal.returns

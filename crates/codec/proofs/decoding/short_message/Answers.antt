@@ -1,8 +1,6 @@
 -- The fault decides. Assumes nothing.
-use mathlib.Core.Path.{ap, ◌∙◌}
-use Rattle.wire.specs.declared.Message.{Message}
+use mathlib.Core.Path.{◌∙◌}
 use Rattle.codec.proofs.ReadWhole.{as_bad, as_good}
-use borrow.Author.Rules.{rules}
 use Rattle.codec.proofs.decoding.short_message.Goals as goal
 
 pub returns-then-fault-ne0 : goal.returns-then-fault-ne0

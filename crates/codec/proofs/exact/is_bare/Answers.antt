@@ -1,6 +1,5 @@
 -- The length, and then the code. Assumes nothing.
 use borrow.Author.Tests.{eq-eqb, ne_eqb}
-use borrow.Author.Rules.{rules}
 use Rattle.codec.proofs.exact.is_bare.Goals as goal
 
 pub returns-then-bytes-ne8 : goal.returns-then-bytes-ne8

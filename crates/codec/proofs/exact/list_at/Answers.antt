@@ -1,9 +1,7 @@
 -- The entries so far are read, and blank ones stand behind them. Assumes nothing.
 use mathlib.Core.Path.{◌≡◌, refl}
-use Prim.Native.Nat.{◌+◌, ◌*◌, ◌≤◌, ◌-◌}
 use native.Mathlib.Omega.{arith}
-use Rattle.xdr.specs.Array.{Filled, filled_more}
-use Rattle.xdr.specs.Reading.{clean}
+use Rattle.xdr.specs.Array.{filled_more}
 use Rattle.rules.specs.Pieces.{no_piece}
 use Rattle.wire.specs.Parts.{piece}
 use Rattle.codec.proofs.exact.list_at.Goals as goal

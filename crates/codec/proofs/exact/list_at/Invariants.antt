@@ -1,8 +1,7 @@
 -- The entries so far are read, and blank ones stand behind them. Assumes nothing.
-use mathlib.Core.Path.{◌≡◌, refl}
+use mathlib.Core.Path.{◌≡◌}
 use Prim.Native.Nat.{◌+◌, ◌*◌, ◌≤◌, ◌-◌}
-use native.Mathlib.Omega.{arith}
-use Rattle.xdr.specs.Array.{Filled, filled_more}
+use Rattle.xdr.specs.Array.{Filled}
 use Rattle.xdr.specs.Reading.{clean}
 use Rattle.rules.specs.Pieces.{no_piece}
 use Rattle.wire.specs.Parts.{piece}

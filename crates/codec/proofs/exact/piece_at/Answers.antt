@@ -3,7 +3,6 @@ use mathlib.Core.Path.{◌∙◌}
 use mir.Syntax.{w32}
 use mir.Facts.{to_z-of_z}
 use Rattle.codec.proofs.ReadExact.{piece-read}
-use borrow.Author.Rules.{rules}
 use Rattle.codec.proofs.exact.piece_at.Goals as goal
 
 pub returns : goal.returns

@@ -1,7 +1,6 @@
 -- The words are the message. Assumes nothing.
 use native.Mathlib.Omega.{arith}
 use Rattle.codec.proofs.ReadExact.{answered-decoded}
-use borrow.Author.Rules.{rules}
 use Rattle.codec.proofs.exact.read_answered.Goals as goal
 
 pub word_if-ballot-requires : goal.word_if-ballot-requires

@@ -1,7 +1,6 @@
 -- The words, the pieces and the set are the message. Assumes nothing.
 use native.Mathlib.Omega.{arith}
 use Rattle.codec.proofs.ReadExact.{asked-decoded}
-use borrow.Author.Rules.{rules}
 use Rattle.codec.proofs.exact.read_asked.Goals as goal
 
 pub word_at-t-requires : goal.word_at-t-requires

@@ -3,7 +3,6 @@ use mathlib.Core.Path.{ap, ◌∙◌}
 use native.Mathlib.Omega.{arith}
 use Rattle.wire.specs.declared.Message.{Message}
 use Rattle.codec.proofs.ReadExact.{bare-long, bare-decoded}
-use borrow.Author.Rules.{rules}
 use Rattle.codec.proofs.exact.read_bare.Goals as goal
 
 pub word_at-code-requires : goal.word_at-code-requires

@@ -14,7 +14,6 @@ use Rattle.encoding.specs.ByKind.{answered_shape}
 use borrow.Author.Tests.{eqb-true}
 use Rattle.masks.proofs.Bools.{and_yes-l, and_yes_r, not_yes, or_no_l, or_no_r}
 use Rattle.wire.specs.declared.Shape.{Shape}
-use borrow.Author.Rules.{rules}
 use Rattle.codec.proofs.exact.see_answered.Goals as goal
 
 pub returns-then-n-lt12 : goal.returns-then-n-lt12

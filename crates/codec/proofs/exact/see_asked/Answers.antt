@@ -13,7 +13,6 @@ use borrow.Author.Tests.{eqb-true, leb-true}
 use Rattle.masks.proofs.Bools.{and_yes-l, and_yes_r}
 use Rattle.xdr.proofs.Windows.{cost}
 use Rattle.encoding.specs.ByKind.{asked_shape}
-use borrow.Author.Rules.{rules}
 use Rattle.codec.proofs.exact.see_asked.Goals as goal
 
 pub returns-then-n-lt16 : goal.returns-then-n-lt16

@@ -6,7 +6,6 @@ use Rattle.xdr.specs.Reading.{reads_when, reads_none}
 use Rattle.rules.specs.Sets.{no_set}
 use Rattle.wire.specs.Parts.{set4}
 use Rattle.codec.proofs.ReadExact.{set-read}
-use borrow.Author.Rules.{rules}
 use Rattle.codec.proofs.exact.set_if.Goals as goal
 
 pub hyper_at-w0-requires : goal.hyper_at-w0-requires

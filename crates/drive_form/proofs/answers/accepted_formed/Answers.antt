@@ -1,6 +1,5 @@
 -- `drive_form::answers::accepted_formed` meets its contract: what is not held is not judged. Assumes nothing.
 use Rattle.drive.specs.Form.{accepted_formed}
-use borrow.Author.Rules.{rules}
 use Rattle.drive_form.proofs.answers.accepted_formed.Goals as goal
 
 pub returns-then-held : goal.returns-then-held

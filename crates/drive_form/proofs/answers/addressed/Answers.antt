@@ -1,5 +1,4 @@
 -- `drive_form::answers::addressed` meets its contract: the callees say it. Assumes nothing.
-use borrow.Author.Rules.{rules}
 use Rattle.drive_form.proofs.answers.addressed.Goals as goal
 
 pub returns : goal.returns

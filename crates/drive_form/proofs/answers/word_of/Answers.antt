@@ -1,5 +1,4 @@
 -- `drive_form::answers::word_of` meets its contract: a word is given where one is held. Assumes nothing.
-use borrow.Author.Rules.{rules}
 use Rattle.drive_form.proofs.answers.word_of.Goals as goal
 
 pub returns-then-held : goal.returns-then-held

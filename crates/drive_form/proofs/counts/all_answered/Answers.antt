@@ -1,5 +1,4 @@
 -- `drive_form::counts::all_answered` meets its contract: the callees say it. Assumes nothing.
-use borrow.Author.Rules.{rules}
 use Rattle.drive_form.proofs.counts.all_answered.Goals as goal
 
 pub returns : goal.returns

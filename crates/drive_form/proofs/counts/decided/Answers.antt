@@ -1,6 +1,5 @@
 -- `drive_form::counts::decided` meets its contract: by phase. Assumes nothing.
 use Rattle.drive_form.specs.Parts.{enough}
-use borrow.Author.Rules.{rules}
 use Rattle.drive_form.proofs.counts.decided.Goals as goal
 
 pub returns-then-accepting : goal.returns-then-accepting

@@ -1,6 +1,5 @@
 -- `drive_form::counts::pairs` meets its contract: the callees say it. Assumes nothing.
 use Rattle.drive_form.specs.Parts.{pairs}
-use borrow.Author.Rules.{rules}
 use Rattle.drive_form.proofs.counts.pairs.Goals as goal
 
 pub returns : goal.returns

@@ -1,6 +1,5 @@
 -- `drive_form::counts::servers_of` meets its contract: the shards are put in one after the other. Assumes nothing.
 use Rattle.drive_form.proofs.Servers.{servers-four}
-use borrow.Author.Rules.{rules}
 use Rattle.drive_form.proofs.counts.servers_of.Goals as goal
 
 pub returns : goal.returns

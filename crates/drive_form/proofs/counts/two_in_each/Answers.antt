@@ -1,6 +1,5 @@
 -- `drive_form::counts::two_in_each` meets its contract: the test of words is that of the shards. Assumes nothing.
 use Rattle.drive_form.proofs.Servers.{two-words}
-use borrow.Author.Rules.{rules}
 use Rattle.drive_form.proofs.counts.two_in_each.Goals as goal
 
 pub returns : goal.returns

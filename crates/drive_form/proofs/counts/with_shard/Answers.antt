@@ -1,5 +1,4 @@
 -- `drive_form::counts::with_shard` meets its contract: the callees say it. Assumes nothing.
-use borrow.Author.Rules.{rules}
 use Rattle.drive_form.proofs.counts.with_shard.Goals as goal
 
 pub returns-then-touched : goal.returns-then-touched

@@ -1,6 +1,5 @@
 -- `changes::accepted` meets its contract. Assumes nothing.
 use Rattle.server.specs.Changes.{accepted}
-use borrow.Author.Rules.{rules}
 use Rattle.server_change.proofs.changes.accepted.Goals as goal
 
 pub returns : goal.returns

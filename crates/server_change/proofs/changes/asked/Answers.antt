@@ -1,6 +1,5 @@
 -- `changes::asked` meets its contract. Assumes nothing.
 use Rattle.server.specs.Changes.{asked}
-use borrow.Author.Rules.{rules}
 use Rattle.server_change.proofs.changes.asked.Goals as goal
 
 pub returns-then-settled : goal.returns-then-settled

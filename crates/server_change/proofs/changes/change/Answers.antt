@@ -1,6 +1,5 @@
 -- `changes::change` meets its contract. Assumes nothing.
 use Rattle.server.specs.Changes.{change}
-use borrow.Author.Rules.{rules}
 use Rattle.server_change.proofs.changes.change.Goals as goal
 
 pub returns-then-pre_accept : goal.returns-then-pre_accept

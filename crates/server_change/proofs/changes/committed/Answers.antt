@@ -1,6 +1,5 @@
 -- `changes::committed` meets its contract. Assumes nothing.
 use Rattle.server.specs.Changes.{committed}
-use borrow.Author.Rules.{rules}
 use Rattle.server_change.proofs.changes.committed.Goals as goal
 
 pub returns-then-repeat : goal.returns-then-repeat

@@ -1,6 +1,5 @@
 -- `changes::fetched` meets its contract. Assumes nothing.
 use Rattle.server.specs.Changes.{fetched}
-use borrow.Author.Rules.{rules}
 use Rattle.server_change.proofs.changes.fetched.Goals as goal
 
 pub returns-then-ran : goal.returns-then-ran

@@ -1,6 +1,5 @@
 -- `changes::inquired` meets its contract. Assumes nothing.
 use Rattle.server.specs.Changes.{inquired}
-use borrow.Author.Rules.{rules}
 use Rattle.server_change.proofs.changes.inquired.Goals as goal
 
 pub returns-then-committed : goal.returns-then-committed

@@ -1,6 +1,5 @@
 -- `changes::pre_accepted` meets its contract. Assumes nothing.
 use Rattle.server.specs.Changes.{pre_accepted}
-use borrow.Author.Rules.{rules}
 use Rattle.server_change.proofs.changes.pre_accepted.Goals as goal
 
 pub returns : goal.returns

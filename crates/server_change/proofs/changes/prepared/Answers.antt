@@ -1,6 +1,5 @@
 -- `changes::prepared` meets its contract. Assumes nothing.
 use Rattle.server.specs.Changes.{prepared}
-use borrow.Author.Rules.{rules}
 use Rattle.server_change.proofs.changes.prepared.Goals as goal
 
 pub returns : goal.returns

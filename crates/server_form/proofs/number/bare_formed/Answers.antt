@@ -1,7 +1,6 @@
 -- `number::bare_formed` meets its contract. Assumes nothing.
 use mathlib.Core.Path.{◌≡◌, refl}
 use mathlib.Core.Bool.{Bool, true, false, not, ◌&&◌}
-use borrow.Author.Rules.{rules}
 use lib.Dec.{eqb}
 use Rattle.masks.proofs.Bools.{not_no}
 use Rattle.rules.specs.Flags.{there}

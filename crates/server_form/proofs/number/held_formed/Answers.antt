@@ -1,6 +1,5 @@
 -- `number::held_formed` meets its contract. Assumes nothing.
 use Rattle.server_form.specs.OnePass.{held_formed}
-use borrow.Author.Rules.{rules}
 use Rattle.server_form.proofs.number.held_formed.Goals as goal
 
 pub returns : goal.returns

@@ -3,7 +3,6 @@ use mathlib.Core.Bool.{Bool}
 use mathlib.Core.Path.{sym, ap, ◌∙◌}
 use Rattle.server_form.specs.OnePass.{bare_formed}
 use Rattle.server_form.proofs.NumberParts.{with-pieces, without-pieces}
-use borrow.Author.Rules.{rules}
 use Rattle.server_form.proofs.number.number_formed.Goals as goal
 
 pub returns-then-held : goal.returns-then-held

@@ -1,6 +1,5 @@
 -- `number::ran_formed` meets its contract. Assumes nothing.
 use Rattle.server_form.specs.OnePass.{logged_formed, ran_formed}
-use borrow.Author.Rules.{rules}
 use Rattle.server_form.proofs.number.ran_formed.Goals as goal
 
 pub returns-then-logged : goal.returns-then-logged

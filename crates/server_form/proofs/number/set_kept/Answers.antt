@@ -1,5 +1,4 @@
 -- `number::set_kept` meets its contract. Assumes nothing.
-use borrow.Author.Rules.{rules}
 use Rattle.server_form.proofs.number.set_kept.Goals as goal
 
 pub returns-then-there : goal.returns-then-there

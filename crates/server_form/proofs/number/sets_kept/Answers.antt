@@ -1,6 +1,5 @@
 -- `number::sets_kept` meets its contract. Assumes nothing.
 use Rattle.server_form.specs.OnePass.{sets_kept}
-use borrow.Author.Rules.{rules}
 use Rattle.server_form.proofs.number.sets_kept.Goals as goal
 
 pub returns : goal.returns

@@ -1,5 +1,4 @@
 -- `number::vote_kept` meets its contract. Assumes nothing.
-use borrow.Author.Rules.{rules}
 use Rattle.server_form.proofs.number.vote_kept.Goals as goal
 
 pub returns-then-there : goal.returns-then-there

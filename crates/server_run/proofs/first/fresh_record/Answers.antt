@@ -1,6 +1,5 @@
 -- `server_run::first::fresh_record` meets its contract.
 -- Assumes nothing.
-use borrow.Author.Rules.{rules}
 use Rattle.server_run.proofs.first.fresh_record.Goals as goal
 
 pub returns : goal.returns

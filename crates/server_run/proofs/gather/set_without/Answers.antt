@@ -1,5 +1,4 @@
 -- `server_run::gather::set_without` meets its contract. Assumes nothing.
-use borrow.Author.Rules.{rules}
 use Rattle.server_run.proofs.gather.set_without.Goals as goal
 
 pub returns : goal.returns

@@ -1,5 +1,4 @@
 -- `record::came_earlier` meets its contract. Assumes nothing.
-use borrow.Author.Rules.{rules}
 use Rattle.server_step.proofs.record.came_earlier.Goals as goal
 
 pub returns-then-arrived : goal.returns-then-arrived

@@ -1,6 +1,5 @@
 -- `record::change_by` meets its contract. Assumes nothing.
 use Rattle.server_step.specs.OneStore.{change_by}
-use borrow.Author.Rules.{rules}
 use Rattle.server_step.proofs.record.change_by.Goals as goal
 
 pub returns-then-taken : goal.returns-then-taken

@@ -1,7 +1,6 @@
 -- `record::place_of` meets its contract. Assumes nothing.
 use Rattle.server_step.specs.OneStore.{place_of}
 use mathlib.Core.Path.{sym, ◌∙◌}
-use borrow.Author.Rules.{rules}
 use Rattle.server_step.proofs.record.place_of.Goals as goal
 
 pub returns-then-none : goal.returns-then-none

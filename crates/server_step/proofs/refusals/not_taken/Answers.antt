@@ -1,6 +1,5 @@
 -- `refusals::not_taken` meets its contract. Assumes nothing.
 use Rattle.server.specs.Refusals.{not_taken}
-use borrow.Author.Rules.{rules}
 use Rattle.server_step.proofs.refusals.not_taken.Goals as goal
 
 pub returns : goal.returns

@@ -1,6 +1,5 @@
 -- `refusals::other_pieces` meets its contract. Assumes nothing.
 use Rattle.server.specs.Refusals.{other_pieces}
-use borrow.Author.Rules.{rules}
 use Rattle.server_step.proofs.refusals.other_pieces.Goals as goal
 
 pub returns-then-both : goal.returns-then-both

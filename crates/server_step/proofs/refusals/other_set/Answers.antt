@@ -1,6 +1,5 @@
 -- `refusals::other_set` meets its contract. Assumes nothing.
 use Rattle.server.specs.Refusals.{other_set}
-use borrow.Author.Rules.{rules}
 use Rattle.server_step.proofs.refusals.other_set.Goals as goal
 
 pub returns : goal.returns

@@ -1,6 +1,5 @@
 -- `refusals::refusal_by` meets its contract. Assumes nothing.
 use Rattle.server_step.specs.OneStore.{refusal_by}
-use borrow.Author.Rules.{rules}
 use Rattle.server_step.proofs.refusals.refusal_by.Goals as goal
 
 pub returns : goal.returns

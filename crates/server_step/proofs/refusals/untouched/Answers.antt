@@ -1,6 +1,5 @@
 -- `refusals::untouched` meets its contract. Assumes nothing.
 use Rattle.server.specs.Refusals.{untouched}
-use borrow.Author.Rules.{rules}
 use Rattle.server_step.proofs.refusals.untouched.Goals as goal
 
 pub returns : goal.returns
