@@ -1,11 +1,11 @@
 -- The walk to the highest accepted ballot: its best so far is at most 12, and at 12 no answer is looked at. Assumes nothing.
-use mathlib.Core.Path.{◌≡◌, refl, sym, ap, ◌∙◌}
+use mathlib.Core.Path.{◌≡◌}
 use mathlib.Core.Bool.{Bool, true, false, not}
 use Prim.Native.Nat.{ℕ, ◌≤◌, ◌<◌, ◌%◌}
 use native.Mathlib.Nat.{le_refl, mod-eq_of_lt}
 use native.Mathlib.Decide.{ℕ_discrete}
 use native.Mathlib.Omega.{arith}
-use borrow.Author.Tests.{eq-eqb, ne_eqb, le-ltb}
+use borrow.Author.Tests.{eq-eqb, le-ltb}
 use lib.Dec.{eqb, ltb}
 use Rattle.masks.specs.Folds.{iter}
 use Rattle.masks.proofs.FoldLaws.{iter_keeps}
@@ -14,7 +14,6 @@ use Rattle.rules.specs.declared.Set.{Set}
 use Rattle.drive.specs.declared.Drive.{Drive}
 use Rattle.drive.specs.Held.{answer_at}
 use Rattle.drive.specs.Decide.{has_accepted, better, highest}
-use Rattle.drive_decide.specs.declared.Turn.{Turn}
 use Rattle.drive_decide.specs.Turns.{turn0}
 
 -- one of the two

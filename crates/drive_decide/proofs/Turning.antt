@@ -4,7 +4,6 @@ use mathlib.Core.Bool.{Bool, true, false, ◌&&◌}
 use Prim.Native.Nat.{ℕ}
 use lib.Dec.{ltb, eqb}
 use Rattle.rules.specs.Choice.{◌if◌else◌}
-use Rattle.rules.specs.declared.Set.{Set}
 use Rattle.drive.specs.declared.Drive.{Drive}
 use Rattle.drive.specs.Held.{answer_at}
 use Rattle.drive.specs.Decide.{all_answered, equal_words, unions, highest, decide0, decide1, decide2, decide}

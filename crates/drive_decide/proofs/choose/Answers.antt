@@ -1,6 +1,5 @@
 -- `drive_decide::choose` meets its contract: by phase. Assumes nothing.
 use Rattle.drive_decide.specs.Turns.{turn_by}
-use borrow.Author.Rules.{rules}
 use Rattle.drive_decide.proofs.choose.Goals as goal
 
 pub returns-then-preparing : goal.returns-then-preparing

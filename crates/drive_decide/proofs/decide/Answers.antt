@@ -1,6 +1,5 @@
 -- `drive_decide::decide` meets its contract: what is chosen is what it decides. Assumes nothing.
 use Rattle.drive_decide.proofs.Choosing.{turn_by_lem}
-use borrow.Author.Rules.{rules}
 use Rattle.drive_decide.proofs.decide.Goals as goal
 
 pub returns : goal.returns

@@ -1,5 +1,4 @@
 -- `drive_decide::decide0` meets its contract: by its tests. Assumes nothing.
-use borrow.Author.Rules.{rules}
 use Rattle.drive_decide.specs.Turns.{turn0}
 use Rattle.drive_decide.proofs.decide0.Goals as goal
 

@@ -1,7 +1,6 @@
 -- `drive_decide::decide1` meets its contract: by its tests. Assumes nothing.
 use mathlib.Core.Path.{◌≡◌}
 use mathlib.Core.Bool.{true, false, ◌&&◌}
-use borrow.Author.Rules.{rules}
 use Rattle.drive_decide.specs.Turns.{turn1}
 use Rattle.drive_decide.proofs.decide1.Goals as goal
 

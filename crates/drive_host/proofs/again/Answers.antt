@@ -1,13 +1,11 @@
 -- `drive_host::again` meets its contract: refused, or begun at the next ballot, which is one. Assumes nothing.
 use mathlib.Core.Path.{◌≡◌, sym, ◌∙◌}
-use mathlib.Core.Bool.{not, ◌||◌}
-use Prim.Native.Nat.{◌≤◌, ◌<◌, ◌^◌}
+use mathlib.Core.Bool.{not}
+use Prim.Native.Nat.{◌≤◌}
 use native.Mathlib.Omega.{arith}
 use borrow.Author.Tests.{eqb-true}
 use lib.Dec.{eqb}
-use borrow.Author.Rules.{rules}
 use Rattle.drive.specs.Host.{again_refusal, again}
-use Rattle.drive.specs.Held.{began}
 use Rattle.drive_host.proofs.Unless.{taken, not_taken_lem, last_of_three}
 use Rattle.rules.proofs.NextIsSmallest.{not-past}
 use Rattle.drive_host.proofs.again.Goals as goal

@@ -1,6 +1,5 @@
 -- `drive_host::move_on` meets its contract: refused, or turned by what is decided. Assumes nothing.
 use mathlib.Core.Path.{◌≡◌, sym, ◌∙◌}
-use borrow.Author.Rules.{rules}
 use borrow.Author.Tests.{eqb-true}
 use Rattle.drive.specs.Host.{move_on_refusal, move_on}
 use Rattle.drive_host.proofs.Unless.{taken, not_taken_lem}

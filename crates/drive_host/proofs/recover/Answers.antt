@@ -1,12 +1,10 @@
 -- `drive_host::recover` meets its contract: refused, or begun at the next ballot, which is one. Assumes nothing.
-use mathlib.Core.Path.{◌≡◌, sym, ◌∙◌}
+use mathlib.Core.Path.{sym, ◌∙◌}
 use mathlib.Core.Bool.{not, ◌||◌}
-use Prim.Native.Nat.{◌≤◌, ◌<◌, ◌^◌}
+use Prim.Native.Nat.{◌≤◌}
 use native.Mathlib.Omega.{arith}
 use borrow.Author.Tests.{eqb-true}
-use borrow.Author.Rules.{rules}
 use Rattle.drive.specs.Host.{recover_refusal, recover}
-use Rattle.drive.specs.Held.{began}
 use Rattle.drive_host.proofs.Unless.{taken, not_taken_lem, last_of_four}
 use Rattle.rules.specs.Ballots.{no_next}
 use Rattle.rules.proofs.NextIsSmallest.{not-past}

@@ -1,7 +1,5 @@
 -- `drive_host::recover_refusal` meets its contract: the callees say its tests, and the first that fires gives its number. Assumes nothing.
-use borrow.Author.Rules.{rules}
 use Rattle.drive.specs.Host.{recover_refusal}
-use Rattle.drive_host.proofs.Unless.{taken}
 use Rattle.drive_host.proofs.recover_refusal.Goals as goal
 
 pub returns-then-over : goal.returns-then-over

@@ -1,10 +1,5 @@
 -- `drive_host::start` meets its contract: refused, or begun. Assumes nothing.
-use mathlib.Core.Path.{◌≡◌, ◌∙◌}
-use mathlib.Core.Bool.{◌||◌}
-use Prim.Native.Nat.{◌≤◌, ◌<◌, ◌^◌}
-use borrow.Author.Rules.{rules}
 use Rattle.drive.specs.Host.{start}
-use Rattle.drive.specs.Held.{began}
 use Rattle.drive_host.proofs.Unless.{taken, not_taken_lem}
 use Rattle.drive_host.proofs.start.Goals as goal
 

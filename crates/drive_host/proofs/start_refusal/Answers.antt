@@ -1,7 +1,5 @@
 -- `drive_host::start_refusal` meets its contract: the callees say its tests, and the first that fires gives its number. Assumes nothing.
-use borrow.Author.Rules.{rules}
 use Rattle.drive.specs.Host.{start_refusal}
-use Rattle.drive_host.proofs.Unless.{taken}
 use Rattle.drive_host.proofs.start_refusal.Goals as goal
 
 pub returns-then-over : goal.returns-then-over

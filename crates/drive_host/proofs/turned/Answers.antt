@@ -1,5 +1,4 @@
 -- `drive_host::turned` meets its contract: the answers are twelve times none. Assumes nothing.
-use borrow.Author.Rules.{rules}
 use Rattle.drive_host.proofs.turned.Goals as goal
 
 pub returns : goal.returns

@@ -1,6 +1,5 @@
 -- `drive_refusals::bad_head` meets its contract: the callees say its tests. Assumes nothing.
 use Rattle.drive_refusals.specs.Refusals.{bad_head}
-use borrow.Author.Rules.{rules}
 use Rattle.drive_refusals.proofs.bad_head.Goals as goal
 
 pub returns : goal.returns

@@ -1,7 +1,6 @@
 -- `drive_refusals::bad_held` meets its contract: a set is judged where one is held. Assumes nothing.
 use mathlib.Core.Bool.{or-false}
 use Rattle.drive_refusals.specs.Refusals.{bad_held}
-use borrow.Author.Rules.{rules}
 use Rattle.drive_refusals.proofs.bad_held.Goals as goal
 
 pub returns-then-voted : goal.returns-then-voted

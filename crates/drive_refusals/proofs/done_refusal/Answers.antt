@@ -2,7 +2,6 @@
 use mathlib.Core.Path.{sym, ap, ◌∙◌}
 use mathlib.Core.Bool.{not}
 use Rattle.drive_refusals.specs.Refusals.{done_by}
-use borrow.Author.Rules.{rules}
 use Rattle.drive_refusals.proofs.done_refusal.Goals as goal
 
 pub returns-then-over : goal.returns-then-over

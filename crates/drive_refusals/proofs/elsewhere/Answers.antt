@@ -1,6 +1,5 @@
 -- `drive_refusals::elsewhere` meets its contract: the callee says its last test. Assumes nothing.
 use Rattle.drive_refusals.specs.Refusals.{elsewhere}
-use borrow.Author.Rules.{rules}
 use Rattle.drive_refusals.proofs.elsewhere.Goals as goal
 
 pub returns : goal.returns

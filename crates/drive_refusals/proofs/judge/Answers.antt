@@ -1,6 +1,5 @@
 -- `drive_refusals::judge` meets its contract: by its code. Assumes nothing.
 use Rattle.drive_refusals.specs.Refusals.{judged_by}
-use borrow.Author.Rules.{rules}
 use Rattle.drive_refusals.proofs.judge.Goals as goal
 
 pub returns-then-arrived : goal.returns-then-arrived

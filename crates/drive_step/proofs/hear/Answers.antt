@@ -1,7 +1,6 @@
 -- `drive_step::hear` meets its contract: what the reply comes to is stored, as Outcomes says. Assumes nothing.
 use mathlib.Core.Path.{sym, ◌∙◌}
 use native.Mathlib.Omega.{arith}
-use borrow.Author.Rules.{rules}
 use Rattle.drive_step.proofs.Outcomes.{as_lent, new-phase, one_answer, in_place}
 use Rattle.drive_step.proofs.hear.Goals as goal
 

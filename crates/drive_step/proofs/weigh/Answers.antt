@@ -1,10 +1,9 @@
 -- `drive_step::weigh` meets its contract: the walk of the answers gives the form and the counted servers, these give the refusal; what is not refused is by its code, as Outcomes says. Assumes nothing.
 use mathlib.Core.Path.{◌≡◌, ap, sym, ◌∙◌}
-use mathlib.Core.Logic.{⊎_elim}
-use Prim.Native.Nat.{◌≤◌, ◌<◌, ◌-◌}
+use Prim.Native.Nat.{◌<◌}
 use native.Mathlib.Omega.{arith}
 use borrow.Author.Rules.{rules}
-use lib.ListN.{length, length-map}
+use lib.ListN.{length}
 use Rattle.drive.specs.Held.{touched, with_answer}
 use Rattle.drive.specs.Decide.{all_answered, decided}
 use Rattle.drive.specs.Hear.{answer_of, refusal}

@@ -1,5 +1,4 @@
 -- `drive_decide::votes::best` meets its contract: the callee says whose it is. Assumes nothing.
-use borrow.Author.Rules.{rules}
 use Rattle.drive_decide.proofs.votes.best.Goals as goal
 
 pub returns : goal.returns

@@ -1,8 +1,7 @@
 -- `drive_decide::votes::better` meets its contract: by its tests. Assumes nothing.
 use mathlib.Core.Path.{◌≡◌}
-use mathlib.Core.Bool.{true, false, ◌&&◌}
+use mathlib.Core.Bool.{true, false}
 use lib.Dec.{ltb}
-use borrow.Author.Rules.{rules}
 use Rattle.drive_decide.proofs.votes.better.Goals as goal
 
 pub returns-then-empty : goal.returns-then-empty

@@ -1,12 +1,8 @@
 -- `drive_decide::votes::highest` meets its contract: after s turns the best of the servers below s is known. Assumes nothing.
 use Prim.Native.Nat.{◌≤◌, ◌-◌}
-use mathlib.Core.Path.{◌≡◌, ap, ◌∙◌}
-use native.Mathlib.Omega.{arith}
-use borrow.Author.Rules.{rules}
-use Rattle.drive.specs.Decide.{better, highest}
+use mathlib.Core.Path.{◌≡◌}
+use Rattle.drive.specs.Decide.{better}
 use Rattle.masks.specs.Folds.{iter}
-use Rattle.masks.proofs.Turns.{iter-none, iter-step}
-use Rattle.drive_decide.proofs.Highest.{best-le, better-within}
 use Rattle.drive_decide.proofs.votes.highest.Given as goal
 
 abbrev pub invariant-loop-s : goal.invariant-loop-s

@@ -1,7 +1,6 @@
 -- `drive_decide::words::in_shard` meets its contract: the callees say its tests, and where none is counted nothing is said. Assumes nothing.
 use Rattle.masks.specs.Bits.{union}
 use Rattle.drive_decide.proofs.Wording.{silent}
-use borrow.Author.Rules.{rules}
 use Rattle.drive_decide.proofs.words.in_shard.Goals as goal
 
 pub returns-then-silent : goal.returns-then-silent

@@ -1,6 +1,5 @@
 -- `drive_decide::words::of_drive` meets its contract: shard by shard. Assumes nothing.
 use Rattle.drive_decide.proofs.Wording.{words-four}
-use borrow.Author.Rules.{rules}
 use Rattle.drive_decide.proofs.words.of_drive.Goals as goal
 
 pub returns : goal.returns

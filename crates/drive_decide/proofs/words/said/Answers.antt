@@ -1,5 +1,4 @@
 -- `drive_decide::words::said` meets its contract: the callee says it. Assumes nothing.
-use borrow.Author.Rules.{rules}
 use Rattle.drive_decide.proofs.words.said.Goals as goal
 
 pub returns : goal.returns

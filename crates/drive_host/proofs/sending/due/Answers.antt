@@ -1,9 +1,6 @@
 -- `drive_host::sending::due` meets its contract: in form what is due, else 13. Assumes nothing.
-use mathlib.Core.Path.{◌≡◌, ◌∙◌}
-use mathlib.Core.Bool.{◌||◌}
-use Prim.Native.Nat.{◌≤◌, ◌<◌, ◌^◌}
+use Prim.Native.Nat.{◌<◌, ◌^◌}
 use native.Mathlib.Omega.{arith}
-use borrow.Author.Rules.{rules}
 use Rattle.drive.specs.Due.{servers_of, due}
 use Rattle.masks.proofs.FoldLaws.{mask_bound}
 use Rattle.drive_host.proofs.sending.due.Goals as goal

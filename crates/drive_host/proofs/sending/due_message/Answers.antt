@@ -1,5 +1,4 @@
 -- `drive_host::sending::due_message` meets its contract: by phase. Assumes nothing.
-use borrow.Author.Rules.{rules}
 use Rattle.drive.specs.Due.{due_message}
 use Rattle.drive_host.proofs.sending.due_message.Goals as goal
 

@@ -1,4 +1,3 @@
-use borrow.Author.Rules.{rules}
 use Rattle.drive_step.proofs.weighing.untaken.Goals as goal
 
 pub returns : goal.returns
