@@ -105,7 +105,7 @@ def public_functions(root='.', roots=('lib',)):
         text = without_comments(lib.read_text(encoding='utf-8'))
         for prefix, body in modules(lib.parent, text, []):
             uses = re.findall(r'ghost use ([^;]+);', body)
-            imports = {name: owner for owner, name in re.findall(r'(?m)^use (\w+)::(?:\w+::)*(\w+);', body)}
+            imports = {name.strip(): owner for owner, names in re.findall(r'(?m)^use (\w+)::(?:\w+::)*(\w+|\{[^}]*\});', body) for name in names.strip('{}').split(',')}
             for found_one in functions_of(body, prefix):
                 found.append(Function(crate, *found_one, uses, imports))
     return found
