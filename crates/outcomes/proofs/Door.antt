@@ -5,6 +5,7 @@ use Prim.Native.Nat.{ℕ}
 use Rattle.outcomes.specs.Once.{Answers, Leaves}
 use Rattle.door.proofs.exchange.message_of.Reads as door·exchange·message-of-contract
 use Rattle.door.proofs.exchange.judged.Reads as door·exchange·judged-contract
+use Rattle.door.proofs.exchange.heard.Reads as door·exchange·heard-contract
 use Rattle.door.proofs.exchange.runs.Reads as door·exchange·runs-contract
 use Rattle.door.proofs.exchange.place_in.Reads as door·exchange·place-in-contract
 use Rattle.door.proofs.exchange.committed_of.Reads as door·exchange·committed-of-contract
@@ -29,6 +30,9 @@ door·exchange·message-of κ a x y e e' p q = p ∙ sym q
 
 pub door·exchange·judged : Answers door·exchange·judged-contract.Post
 door·exchange·judged κ a x y e e' p q = p ∙ sym q
+
+pub door·exchange·heard : Answers door·exchange·heard-contract.Post
+door·exchange·heard κ a x y e e' p q = p ∙ sym q
 
 pub door·exchange·runs : Answers door·exchange·runs-contract.Post
 door·exchange·runs κ a x y e e' p q = p ∙ sym q

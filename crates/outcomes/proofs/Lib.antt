@@ -10,7 +10,6 @@ pub mod DriveStep
 pub mod Encoding
 pub mod Faults
 pub mod Graph
-pub mod Lent
 pub mod Masks
 pub mod Messages
 pub mod Parts

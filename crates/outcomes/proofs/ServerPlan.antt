@@ -4,6 +4,7 @@ use Rattle.outcomes.specs.Once.{Answers}
 use Rattle.server_plan.proofs.nothing_waits.Reads as server-plan·nothing-waits-contract
 use Rattle.server_plan.proofs.unrun_of.Reads as server-plan·unrun-of-contract
 use Rattle.server_plan.proofs.committed_with.Reads as server-plan·committed-with-contract
+use Rattle.server_plan.proofs.waiting_in.Reads as server-plan·waiting-in-contract
 use Rattle.server_plan.proofs.logged.Reads as server-plan·logged-contract
 use Rattle.server_plan.proofs.planned_log.Reads as server-plan·planned-log-contract
 use Rattle.server_plan.proofs.plan_by.Reads as server-plan·plan-by-contract
@@ -20,6 +21,9 @@ server-plan·unrun-of κ a x y e e' p q = p ∙ sym q
 
 pub server-plan·committed-with : Answers server-plan·committed-with-contract.Post
 server-plan·committed-with κ a x y e e' p q = p ∙ sym q
+
+pub server-plan·waiting-in : Answers server-plan·waiting-in-contract.Post
+server-plan·waiting-in κ a x y e e' p q = p ∙ sym q
 
 pub server-plan·logged : Answers server-plan·logged-contract.Post
 server-plan·logged κ a x y e e' p q = p ∙ sym q
