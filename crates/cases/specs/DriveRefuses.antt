@@ -9,7 +9,7 @@ use Rattle.drive.specs.declared.Drive.{Drive}
 use Rattle.drive.specs.Hear.{hear}
 use Rattle.drive.specs.Host.{start, recover, again, move_on}
 use Rattle.drive.specs.Due.{due}
-use Rattle.cases.specs.Inputs.{one, two, only, after, put5, add2, no_drive, heard_all, in_l}
+use Rattle.cases.specs.Inputs.{only, after, put5, add2, no_drive, heard_all, in_l}
 use Rattle.cases.specs.Computes.{computes}
 
 abbrev started : Drive

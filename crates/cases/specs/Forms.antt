@@ -7,7 +7,7 @@ use Rattle.rules.specs.Pieces.{no_piece}
 use Rattle.rules.specs.Sets.{no_set}
 use Rattle.rules.specs.Maybe.{no_word, some_word, no_vote, some_vote, not_set, some_set}
 use Rattle.rules.specs.Values.{no_value, no_values}
-use Rattle.wire.specs.Messages.{blank, inquire, accept_ok, not_yet, results}
+use Rattle.wire.specs.Messages.{blank, inquire, accept_ok, not_yet}
 use Rattle.counters.specs.Effects.{no_counters}
 use Rattle.server.specs.declared.Record.{Record}
 use Rattle.server.specs.declared.Server.{Server}
@@ -22,7 +22,7 @@ use Rattle.drive.specs.Held.{no_answer}
 use Rattle.drive.specs.Hear.{hear, says}
 use Rattle.drive.specs.Host.{again, move_on}
 use Rattle.drive.specs.Due.{due}
-use Rattle.cases.specs.Inputs.{one, only, after, put5, no_drive, heard_all}
+use Rattle.cases.specs.Inputs.{only, after, put5, no_drive, heard_all}
 use Rattle.cases.specs.Computes.{computes}
 
 -- every fresh server is in form

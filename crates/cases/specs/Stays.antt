@@ -1,10 +1,9 @@
 -- Document 01, "What a server does", by examples: what never changes again, and what each message answers.
-use Rattle.std.specs.Prelude.{◌≡◌, refl, [], ◌∷◌, set}
+use Rattle.std.specs.Prelude.{◌≡◌, refl, [], ◌∷◌}
 use Rattle.rules.specs.Sets.{no_set}
 use Rattle.rules.specs.Maybe.{no_word, some_word, some_vote}
 use Rattle.wire.specs.Messages.{pre_accept, accept, commit, prepare, pre_accept_ok, prepare_ok}
 use Rattle.server.specs.Host.{wanted}
-use Rattle.drive.specs.Host.{again}
 use Rattle.cases.specs.Inputs.{after, answer, put5, add2, in_d, heard_all}
 use Rattle.cases.specs.Computes.{computes}
 

@@ -1,3 +1,4 @@
 pub mod Elements
 pub mod Counting
+pub mod Lending
 pub mod Values

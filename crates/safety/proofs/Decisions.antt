@@ -23,7 +23,7 @@ use Rattle.drive.specs.Decide.{all_answered, two_in_each, has_word, has_accepted
 use Rattle.drive.proofs.DecideKeepsForm.{nobody as nobody-counted, some-touched}
 use Rattle.drive.proofs.QuorumOfTwo.{shard_below}
 use Rattle.drive.proofs.FastPath.{equal_word}
-use Rattle.drive.proofs.HighestAccepted.{Best, High, nobody, somebody, high_is}
+use Rattle.drive.proofs.HighestAccepted.{High, nobody, somebody, high_is}
 use Rattle.safety.specs.Cluster.{World, Cluster}
 use Rattle.safety.proofs.Quorum.{Maj, All3, InShard, i0, i1, i2, maj_in, maj_map, maj_one}
 use Rattle.safety.proofs.Slice.{Slice, Holds, Votes, Covers, Unanimous, Prepared, Free, free, highest as at-highest, Proposal, Chosen, quick, voted}

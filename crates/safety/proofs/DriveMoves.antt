@@ -5,7 +5,7 @@ use mathlib.Core.List.{Memᴰ}
 use Prim.Native.Nat.{ℕ, ◌<◌}
 use native.Mathlib.Omega.{arith}
 use lib.Dec.{eqb}
-use lib.ListN.{set, length-set}
+use lib.ListN.{length-set}
 use borrow.Author.Tests.{eqb-true, eqb-false}
 use Rattle.masks.proofs.Bools.{not_no, true_and_false}
 use Rattle.rules.specs.Flags.{there}
@@ -15,7 +15,7 @@ use Rattle.server.proofs.RunLeaves.{set-either}
 use Rattle.drive.specs.declared.Answer.{Answer}
 use Rattle.drive.specs.declared.Drive.{Drive}
 use Rattle.drive.specs.declared.Moved.{Moved}
-use Rattle.drive.specs.Held.{no_answer, counted, touched, addressed, to_phase, with_answer, with_promise}
+use Rattle.drive.specs.Held.{no_answer, touched, addressed, to_phase, with_answer, with_promise}
 use Rattle.drive.specs.Decide.{two_in_each, decided, decide}
 use Rattle.drive.specs.Form.{formed}
 use Rattle.drive.specs.Hear.{answer_of, settle, count, hear, moved, refused}

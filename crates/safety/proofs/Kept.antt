@@ -8,7 +8,6 @@ use Prim.Native.Nat.{ℕ, ◌<◌}
 use lib.ListN.{length}
 use native.Mathlib.Omega.{arith}
 use Rattle.rules.specs.declared.Set.{Set}
-use Rattle.wire.specs.Codes.{PreAcceptOK}
 use Rattle.drive.specs.declared.Answer.{Answer}
 use Rattle.drive.specs.declared.Drive.{Drive}
 use Rattle.safety.specs.Cluster.{World, Cluster, id_of, ballot_of}

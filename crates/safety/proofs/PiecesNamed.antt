@@ -27,7 +27,7 @@ use Rattle.server.proofs.RunLeaves.{SameHeld}
 use Rattle.drive.specs.declared.Drive.{Drive}
 use Rattle.safety.specs.Cluster.{World, Cluster, ran, Reaches}
 use Rattle.safety.proofs.View.{record_of, put_all}
-use Rattle.safety.proofs.Serving.{after, runs_leave, was_sent_lem, all-records}
+use Rattle.safety.proofs.Serving.{runs_leave, was_sent_lem, all-records}
 use Rattle.safety.proofs.DriveIn.{DriveIn}
 use Rattle.safety.proofs.Kept.{Kept}
 use Rattle.safety.proofs.SendsKeep.{Due, due_prepare, due_pre_accept, due_accept, due_commit}

@@ -11,7 +11,7 @@ use Rattle.masks.specs.Bits.{In, has}
 use Rattle.masks.proofs.Bools.{true_and_false}
 use Rattle.masks.proofs.Laws.{has_in}
 use Rattle.graph.specs.Before.{Before}
-use Rattle.graph.specs.Walk.{rows_of, first_ready, group}
+use Rattle.graph.specs.Walk.{rows_of, first_ready}
 use Rattle.graph.proofs.Rows.{trans}
 use Rattle.graph.proofs.Groups.{group_of}
 use Rattle.graph.proofs.NextGroups.{next-runs}
