@@ -9,7 +9,7 @@ use Rattle.rules.specs.Choice.{◌if◌else◌}
 use Rattle.rules.specs.Flags.{there}
 use Rattle.wire.specs.declared.Message.{Message}
 use Rattle.wire.specs.Bytes.{bytes, encode_refusal}
-use Rattle.wire.specs.Encoding.{Encoding, refused, written, encode}
+use Rattle.wire.specs.Encoding.{refused, written, encode}
 
 kept : (b : Bool) (n : ℕ) (s z : List ℕ) → there (written s z if b else refused n z).refusal ≡ true → (written s z if b else refused n z).buffer ≡ z
 kept true n s z h = absurd (false≢true h)

@@ -1,6 +1,6 @@
 -- The pieces of a number, each on its counter in its place, are `execute`; and where a plan's numbers stand. Assumes nothing.
 use Prim.Native.Nat.{ℕ, zero, suc, ◌+◌, ◌≤◌, ◌<◌}
-use mathlib.Core.Path.{◌≡◌, refl, sym, ap, ◌∙◌}
+use mathlib.Core.Path.{◌≡◌, refl, ap, ◌∙◌}
 use mathlib.Core.Bool.{Bool, true, false, cond}
 use mathlib.Core.Logic.{⊎_elim}
 use native.Mathlib.Omega.{arith}

@@ -1,25 +1,21 @@
 -- The plan of a server in form is what runs, in order. Assumes nothing.
-use Prim.Native.Nat.{ℕ, zero, suc, ◌+◌, ◌-◌, ◌^◌, ◌≤◌, ◌<◌}
+use Prim.Native.Nat.{ℕ, zero, suc, ◌-◌, ◌^◌, ◌≤◌, ◌<◌}
 use mathlib.Core.Path.{◌≡◌, refl, sym, ap, ap₂, ◌∙◌, subst}
 use mathlib.Core.Bool.{Bool, true, false, cond}
-use mathlib.Core.List.{List, [], ◌∷◌, ◌++◌}
-use mathlib.Core.Logic.{⊎_elim}
+use mathlib.Core.List.{List}
 use native.Mathlib.Decide.{ℕ_discrete}
 use native.Mathlib.Omega.{arith}
-use borrow.Author.Tests.{lt-ltb, eqb-true, eqb-false, leb-false, lt-leb}
-use lib.Dec.{eqb, leb, ltb}
-use lib.ListN.{length, get_or}
+use borrow.Author.Tests.{lt-ltb}
+use lib.ListN.{length}
 use Rattle.masks.specs.Bits.{has, union}
 use Rattle.masks.specs.Folds.{tab, over}
-use Rattle.masks.proofs.Bools.{true_or_false}
 use Rattle.graph.specs.Walk.{rows_of, next_group}
-use Rattle.graph.proofs.Rows.{Words}
 use Rattle.graph.proofs.NextGroups.{next-lt}
 use Rattle.server.specs.declared.Log.{Log}
 use Rattle.server.specs.declared.Server.{Server}
-use Rattle.server.specs.Held.{committed_word, append, entry_at}
+use Rattle.server.specs.Held.{committed_word}
 use Rattle.server.specs.Form.{formed}
-use Rattle.server.specs.Run.{deps_at, deps_of, next_run, run_one, run_group, turns}
+use Rattle.server.specs.Run.{deps_at, deps_of, run_one, turns}
 use Rattle.server_form.specs.OnePass.{read_log}
 use Rattle.server_run.specs.Gathered.{unrun_at}
 use Rattle.server_run.specs.Limited.{allowed}

@@ -1,6 +1,6 @@
 -- What a server in memory is known to be: how long its arrays are, and that its words are words. Assumes nothing.
 use Prim.Native.Nat.{ℕ, zero, suc, ◌<◌, ◌^◌}
-use mathlib.Core.Path.{◌≡◌, sym, ◌∙◌}
+use mathlib.Core.Path.{◌≡◌}
 use mathlib.Core.Bool.{Bool, true, false, cond}
 use lib.ListN.{length, get_or}
 use lib.Pow.{pow_pos}

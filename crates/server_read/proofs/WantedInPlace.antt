@@ -1,12 +1,11 @@
 -- The wanted set of a lent server is what the definition says. Assumes nothing.
 use Prim.Native.Nat.{ℕ, zero, suc}
-use mathlib.Core.Path.{◌≡◌, refl, sym, ap, ap₂, ◌∙◌}
+use mathlib.Core.Path.{◌≡◌, refl, ap, ◌∙◌}
 use mathlib.Core.Bool.{Bool, true, false}
 use native.Mathlib.Numerals.{add-one}
 use Rattle.masks.specs.Folds.{iter, mask_of}
 use Rattle.rules.specs.declared.Set.{Set}
 use Rattle.server.specs.declared.Server.{Server}
-use Rattle.server.specs.declared.Wants.{Wants}
 use Rattle.server.specs.Held.{record_at, committed_at, committed_word}
 use Rattle.server.specs.Form.{formed}
 use Rattle.server.specs.Host.{wanted, wanted_in}

@@ -1,5 +1,5 @@
 -- A server's step as it is computed on a lent server: what each pass over the records makes of one record more.
-use Rattle.std.specs.Prelude.{ℕ, Bool, not, ◌&&◌, cond, eqb}
+use Rattle.std.specs.Prelude.{ℕ, not, ◌&&◌, cond, eqb}
 use Rattle.masks.specs.Bits.{insert}
 use Rattle.masks.specs.Folds.{iter}
 use Rattle.rules.specs.Flags.{there}

@@ -1,14 +1,9 @@
 -- `server_plan::logged` meets its contract. Assumes nothing.
-use Prim.Native.Nat.{ℕ, ◌-◌, ◌≤◌}
 use mathlib.Core.Path.{◌≡◌, sym, ap, ap₂, ◌∙◌}
-use mathlib.Core.List.{List}
-use mathlib.Core.Logic.{⊎_elim}
 use native.Mathlib.Omega.{arith}
 use borrow.Author.Rules.{rules}
 use Rattle.masks.proofs.Turns.{over_none}
-use Rattle.server.specs.declared.Log.{Log}
 use Rattle.server_plan.specs.Planning.{noted, logged_of}
-use borrow.Author.Tests.{lt-ltb, le-ltb}
 use Rattle.server_plan.proofs.PlanTurns.{logged_more, logged-full, logged-same}
 use Rattle.server_plan.proofs.logged.Goals as goal
 use Rattle.server_plan.proofs.logged.Goals.{then-has+then-n-lt64, then-has+else-n-lt64, else-has}

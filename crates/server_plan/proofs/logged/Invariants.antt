@@ -1,14 +1,9 @@
 -- `server_plan::logged` meets its contract. Assumes nothing.
 use Prim.Native.Nat.{ℕ, ◌-◌, ◌≤◌}
-use mathlib.Core.Path.{◌≡◌, sym, ap, ◌∙◌}
+use mathlib.Core.Path.{◌≡◌}
 use mathlib.Core.List.{List}
-use mathlib.Core.Logic.{⊎_elim}
-use native.Mathlib.Omega.{arith}
-use borrow.Author.Rules.{rules}
-use Rattle.masks.proofs.Turns.{over_none}
 use Rattle.server.specs.declared.Log.{Log}
-use Rattle.server_plan.specs.Planning.{noted, logged_of}
-use Rattle.server_plan.proofs.PlanTurns.{logged_more, logged-full, logged-same}
+use Rattle.server_plan.specs.Planning.{logged_of}
 use Rattle.server_plan.proofs.logged.Given as goal
 
 -- the log of a list and a count

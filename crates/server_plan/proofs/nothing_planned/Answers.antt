@@ -1,5 +1,4 @@
 -- `server_plan::nothing_planned` meets its contract. Assumes nothing.
-use borrow.Author.Rules.{rules}
 use Rattle.server_plan.proofs.nothing_planned.Goals as goal
 
 pub returns : goal.returns

@@ -1,6 +1,5 @@
 -- `server_plan::plan_after` meets its contract. Assumes nothing.
 use mathlib.Core.Path.{sym, ◌∙◌}
-use borrow.Author.Rules.{rules}
 use Rattle.server_plan.specs.Planning.{planned_after}
 use Rattle.server_plan.proofs.plan_after.Goals as goal
 

@@ -1,5 +1,4 @@
 -- `server_plan::plan_by` meets its contract. Assumes nothing.
-use borrow.Author.Rules.{rules}
 use Rattle.server_plan.specs.Planning.{planned_by}
 use Rattle.server_plan.proofs.plan_by.Goals as goal
 

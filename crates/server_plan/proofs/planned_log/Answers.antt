@@ -1,9 +1,7 @@
 -- `server_plan::planned_log` meets its contract. Assumes nothing.
-use mathlib.Core.Path.{◌≡◌, refl, sym, ap, ◌∙◌}
+use mathlib.Core.Path.{refl, sym, ◌∙◌}
 use native.Mathlib.Omega.{arith}
-use borrow.Author.Rules.{rules}
 use Rattle.graph.specs.Walk.{next_group}
-use Rattle.server_plan.specs.Planning.{planned_log}
 use Rattle.server_plan.proofs.PlanTurns.{covered_none, planned-none, planned-stop, planned-more}
 use Rattle.server_plan.proofs.planned_log.Goals as goal
 

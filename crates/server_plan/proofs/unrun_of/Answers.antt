@@ -1,5 +1,4 @@
 -- `server_plan::unrun_of` meets its contract. Assumes nothing.
-use borrow.Author.Rules.{rules}
 use Rattle.server_plan.specs.Planning.{unrun_of}
 use Rattle.server_plan.proofs.unrun_of.Goals as goal
 

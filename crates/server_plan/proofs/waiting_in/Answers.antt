@@ -1,5 +1,5 @@
 -- `server_plan::waiting_in` meets its contract: each committed set below t is read in its place.
-use Rattle.std.proofs.Common.{◌≡◌, ◌∙◌, refl, ap, ap₂, arith, add-one, slice_set, List, ℕ}
+use Rattle.std.proofs.Common.{◌∙◌, ap, ap₂, arith, add-one, slice_set, List, ℕ}
 use Rattle.masks.specs.Folds.{iter}
 use Rattle.server.specs.Held.{record_at}
 use Rattle.server_plan.specs.declared.Waiting.{Waiting}

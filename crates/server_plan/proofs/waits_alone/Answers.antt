@@ -1,5 +1,4 @@
 -- `server_plan::waits_alone` meets its contract. Assumes nothing.
-use borrow.Author.Rules.{rules}
 use Rattle.server_plan.proofs.waits_alone.Goals as goal
 
 pub returns : goal.returns

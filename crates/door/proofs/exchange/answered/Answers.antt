@@ -1,11 +1,6 @@
-use mathlib.Core.Path.{◌≡◌, sym, ◌∙◌}
+use mathlib.Core.Path.{◌∙◌}
 use Rattle.door.specs.Exchange.{answer_of, written_of}
 use Rattle.door.proofs.Unwritten.{unwritten}
-use borrow.Author.Rules.{rules}
-use Rattle.door.proofs.exchange.answered.Reads as reads
-use Rattle.door.proofs.exchange.answered.Lts as lts
-use Rattle.codec.proofs.encode.Reads as encode-reads
-use Rattle.door.proofs.exchange.refused.Reads as refused-reads
 use Rattle.door.proofs.exchange.answered.Goals as goal
 
 -- src/exchange.rt:58:9

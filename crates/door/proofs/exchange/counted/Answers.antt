@@ -1,6 +1,5 @@
 -- `door::exchange::counted` meets its contract. Assumes nothing.
 use mathlib.Core.Path.{◌∙◌}
-use borrow.Author.Rules.{rules}
 use Rattle.door.specs.Exchange.{answer_of, written_of}
 use Rattle.door.proofs.Unwritten.{unwritten}
 use Rattle.door.proofs.exchange.counted.Goals as goal

@@ -1,5 +1,4 @@
 -- `door::exchange::heard` meets its contract: what the step of the lent server comes to, judged with the decoding.
-use Rattle.std.proofs.Common.{◌≡◌}
 use Rattle.door.specs.Exchange.{heard_of}
 use Rattle.door.proofs.exchange.heard.Goals as goal
 

@@ -1,6 +1,5 @@
 -- `door::exchange::post` meets its contract. Assumes nothing.
 use mathlib.Core.Path.{◌∙◌}
-use borrow.Author.Rules.{rules}
 use Rattle.door.specs.Exchange.{posted, post}
 use Rattle.door.proofs.Unwritten.{unwritten}
 use Rattle.door.proofs.exchange.post.Goals as goal

@@ -1,5 +1,4 @@
 -- `door::exchange::weigh_reply` meets its contract. Assumes nothing.
-use borrow.Author.Rules.{rules}
 use Rattle.door.specs.Exchange.{weigh_reply}
 use Rattle.door.proofs.exchange.weigh_reply.Goals as goal
 

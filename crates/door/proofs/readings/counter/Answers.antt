@@ -4,7 +4,6 @@ use mir.Syntax.{w32}
 use mir.Facts.{to_z-of_z}
 use Rattle.door.specs.Readings.{reading, counter_in}
 use borrow.Author.Tests.{lt-ltb, le-ltb}
-use borrow.Author.Rules.{rules}
 use Rattle.door.proofs.readings.counter.Goals as goal
 
 pub returns-then-key-lt-KEYS : goal.returns-then-key-lt-KEYS

@@ -1,10 +1,8 @@
 -- `door::readings::log_entry` meets its contract. Assumes nothing.
-use native.Mathlib.Omega.{arith}
 use lib.Dec.{ltb}
 use borrow.Author.Tests.{ltb-true}
 use Rattle.masks.proofs.Bools.{and_yes_r}
 use Rattle.door.specs.Readings.{entry_in}
-use borrow.Author.Rules.{rules}
 use Rattle.door.proofs.readings.log_entry.Goals as goal
 
 pub bounds-l-i : goal.bounds-l-i

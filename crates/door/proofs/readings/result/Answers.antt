@@ -1,7 +1,6 @@
 -- `door::readings::result` meets its contract. Assumes nothing.
 use Rattle.door.specs.Readings.{result_at}
 use borrow.Author.Tests.{lt-ltb, le-ltb}
-use borrow.Author.Rules.{rules}
 use Rattle.door.proofs.readings.result.Goals as goal
 
 pub returns-then-t-lt-NUMBERS : goal.returns-then-t-lt-NUMBERS

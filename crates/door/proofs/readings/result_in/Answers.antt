@@ -3,7 +3,6 @@ use mathlib.Core.Path.{ap}
 use lib.IntN.{ℤ}
 use mir.Syntax.{w32}
 use mir.Facts.{to_z-of_z}
-use native.Mathlib.Omega.{arith}
 use lib.ListN.{get_or}
 use Rattle.rules.specs.Values.{no_value}
 use lib.Dec.{ltb}
@@ -12,7 +11,6 @@ use mathlib.Core.Bool.{◌&&◌}
 use Rattle.rules.specs.Flags.{there}
 use Rattle.masks.proofs.Bools.{and_yes_r}
 use Rattle.door.specs.Readings.{reading, result_in}
-use borrow.Author.Rules.{rules}
 use Rattle.door.proofs.readings.result_in.Goals as goal
 
 pub bounds-r-i : goal.bounds-r-i

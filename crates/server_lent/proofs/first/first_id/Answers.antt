@@ -1,5 +1,4 @@
 -- `server_lent::first::first_id` meets its contract. Assumes nothing.
-use borrow.Author.Rules.{rules}
 use Rattle.server_lent.specs.First.{id_of}
 use Rattle.server_lent.proofs.first.first_id.Goals as goal
 

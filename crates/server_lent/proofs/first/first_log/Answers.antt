@@ -1,5 +1,4 @@
 -- `server_lent::first::first_log` meets its contract. Assumes nothing.
-use borrow.Author.Rules.{rules}
 use Rattle.server_lent.specs.First.{log_of}
 use Rattle.server_lent.proofs.first.first_log.Goals as goal
 

@@ -1,5 +1,4 @@
 -- `server_lent::first::first_many` meets its contract. Assumes nothing.
-use borrow.Author.Rules.{rules}
 use Rattle.server_lent.specs.First.{many_of}
 use Rattle.server_lent.proofs.first.first_many.Goals as goal
 

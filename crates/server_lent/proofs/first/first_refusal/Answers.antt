@@ -1,5 +1,4 @@
 -- `server_lent::first::first_refusal` meets its contract. Assumes nothing.
-use borrow.Author.Rules.{rules}
 use Rattle.server_lent.specs.First.{refusal_of}
 use Rattle.server_lent.proofs.first.first_refusal.Goals as goal
 

@@ -1,5 +1,5 @@
 -- `server_lent::first::fresh` meets its contract: the parts that are stored are those of a fresh server, or what stood there.
-use Rattle.std.proofs.Common.{◌≡◌, ◌∙◌}
+use Rattle.std.proofs.Common.{◌∙◌}
 use Rattle.server_read.proofs.Sizes.{Told}
 use Rattle.server_lent.proofs.FirstInPlace.{fresh-fresh-records, fresh-told, fresh_left}
 use Rattle.server_lent.proofs.first.fresh.Goals as goal

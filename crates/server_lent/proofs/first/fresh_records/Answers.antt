@@ -1,5 +1,5 @@
 -- `server_lent::first::fresh_records` meets its contract: each record below t is stored in its place.
-use Rattle.std.proofs.Common.{◌≡◌, ◌∙◌, refl, ap, arith, add-one}
+use Rattle.std.proofs.Common.{◌∙◌, refl, ap, arith, add-one}
 use Rattle.masks.specs.Folds.{iter}
 use Rattle.server.specs.declared.Server.{Server}
 use Rattle.server.specs.Held.{put_record, fresh_record}

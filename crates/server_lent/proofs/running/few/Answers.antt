@@ -1,7 +1,5 @@
 use borrow.Author.Tests.{lt-ltb, le-ltb}
 use Rattle.server_lent.specs.Listed.{few_of}
-use Rattle.server_lent.proofs.running.few.Reads as reads
-use Rattle.server_lent.proofs.running.few.Lts as lts
 use Rattle.server_lent.proofs.running.few.Goals as goal
 
 -- src/running.rt:122:1

@@ -1,5 +1,4 @@
 -- `server_lent::running::left_by` meets its contract. Assumes nothing.
-use borrow.Author.Rules.{rules}
 use Rattle.server_lent.specs.Listed.{left_by}
 use Rattle.server_lent.proofs.running.left_by.Goals as goal
 

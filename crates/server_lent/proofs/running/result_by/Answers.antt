@@ -1,5 +1,4 @@
 -- `server_lent::running::result_by` meets its contract. Assumes nothing.
-use borrow.Author.Rules.{rules}
 use Rattle.server_lent.specs.Listed.{result_by}
 use Rattle.server_lent.proofs.running.result_by.Goals as goal
 

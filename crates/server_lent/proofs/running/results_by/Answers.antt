@@ -1,6 +1,5 @@
 -- `server_lent::running::results_by` meets its contract. Assumes nothing.
 use borrow.Author.Tests.{lt-ltb, le-ltb}
-use borrow.Author.Rules.{rules}
 use Rattle.server_lent.specs.Listed.{results_by}
 use Rattle.server_lent.proofs.running.results_by.Goals as goal
 

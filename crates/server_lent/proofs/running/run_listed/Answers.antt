@@ -1,9 +1,8 @@
 -- `server_lent::running::run_listed` meets its contract: each number at a place of the plan runs, and its results and its flag are stored in its place.
-use Rattle.std.proofs.Common.{◌≡◌, ◌<◌, ◌∙◌, refl, sym, ap, ap₂, arith, add-one, ℕ}
+use Rattle.std.proofs.Common.{◌<◌, refl, arith, add-one}
 use Rattle.masks.specs.Folds.{iter}
-use Rattle.server.specs.declared.Server.{Server}
 use Rattle.server_step.proofs.StepIsServe.{place_lt}
-use Rattle.server_lent.specs.Listed.{ran_listed, ran_at, listed_at}
+use Rattle.server_lent.specs.Listed.{ran_listed}
 use Rattle.server_lent.proofs.RunInPlace.{spot_lt, run-listed-left-next}
 use Rattle.rules.proofs.OnePass.{used_le}
 use Rattle.server_lent.proofs.running.run_listed.Goals as goal

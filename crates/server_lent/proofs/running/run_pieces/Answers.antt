@@ -1,14 +1,11 @@
 -- `server_lent::running::run_pieces` meets its contract: of each piece the counter and the result are stored, each in its place.
-use Rattle.std.proofs.Common.{◌≡◌, ◌<◌, ◌∙◌, refl, sym, ap, ap₂, arith, add-one, ℕ}
+use Rattle.std.proofs.Common.{◌<◌, refl, ap₂, arith, add-one, ℕ}
 use Rattle.masks.specs.Folds.{iter}
-use Rattle.rules.specs.declared.Piece.{Piece}
 use Rattle.rules.specs.declared.Values.{Values}
-use Rattle.rules.specs.Pieces.{piece_at}
-use Rattle.counters.specs.declared.Counters.{Counters}
 use Rattle.counters.specs.declared.Executed.{Executed}
 use Rattle.server.specs.declared.Server.{Server}
-use Rattle.server_lent.specs.Listed.{ran_pieces, piece_turn, pieces_of, with_counters, counter_place, result_place}
-use Rattle.server_lent.proofs.RunInPlace.{run-pieces-place-of-below, run-pieces-counter-place-below, result-place_lt}
+use Rattle.server_lent.specs.Listed.{ran_pieces, piece_turn, pieces_of, with_counters}
+use Rattle.server_lent.proofs.RunInPlace.{run-pieces-place-of-below, result-place_lt}
 use Rattle.counters.proofs.InPlace as in_place
 use Rattle.server_lent.proofs.running.run_pieces.Goals as goal
 

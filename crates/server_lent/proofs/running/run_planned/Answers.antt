@@ -1,5 +1,5 @@
 -- `server_lent::running::run_planned` meets its contract: the plan runs, and the log is stored.
-use Rattle.std.proofs.Common.{◌≡◌, ◌∙◌, ap}
+use Rattle.std.proofs.Common.{◌∙◌, ap}
 use Rattle.server.specs.declared.Server.{Server}
 use Rattle.server_lent.specs.Listed.{ran_planned, ran_listed}
 use Rattle.server_lent.proofs.RunInPlace.{run_planned_run-listed}

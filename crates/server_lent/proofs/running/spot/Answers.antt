@@ -1,6 +1,5 @@
 -- `server_lent::running::spot` meets its contract. Assumes nothing.
 use borrow.Author.Tests.{lt-ltb, le-ltb}
-use borrow.Author.Rules.{rules}
 use Rattle.server_lent.specs.Listed.{spot_of}
 use Rattle.server_lent.proofs.running.spot.Goals as goal
 

@@ -1,9 +1,3 @@
-use borrow.Author.Rules.{rules}
-use Rattle.server_read.proofs.stepping.ask.Reads as reads
-use Rattle.server_read.proofs.stepping.ask.Lts as lts
-use Rattle.transaction.proofs.conflicts.keys_on.Reads as keys-on-reads
-use Rattle.server_step.proofs.record.looked.Reads as looked-reads
-use Rattle.server_step.proofs.refusals.refusal_by.Reads as refusal-by-reads
 use Rattle.server_read.proofs.stepping.ask.Goals as goal
 
 -- src/stepping.rt:73:1

@@ -1,5 +1,5 @@
 -- `server_read::stepping::consider` meets its contract: the record of T is read in its place, and then the records that come to ask.
-use Rattle.std.proofs.Common.{◌≡◌, ◌<◌, ◌∙◌, ap, arith}
+use Rattle.std.proofs.Common.{◌<◌, arith}
 use Rattle.server_read.specs.InPlace.{considered_by}
 use Rattle.server_read.proofs.StepInPlace.{consider-place-for-below, consider-earlier-in}
 use Rattle.server_read.proofs.stepping.consider.Goals as goal

@@ -1,8 +1,4 @@
 use Rattle.server_read.specs.Wanting.{wants_of}
-use borrow.Author.Rules.{rules}
-use Rattle.server_read.proofs.wanting.concluded.Reads as reads
-use Rattle.server_read.proofs.wanting.concluded.Lts as lts
-use Rattle.server_run.proofs.gather.set_without.Reads as set-without-reads
 use Rattle.server_read.proofs.wanting.concluded.Goals as goal
 
 -- src/wanting.rt:69:9

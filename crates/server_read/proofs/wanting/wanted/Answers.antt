@@ -1,5 +1,4 @@
 -- `server_read::wanting::wanted` meets its contract: the two passes come to the wanted set.
-use Rattle.std.proofs.Common.{◌∙◌}
 use Rattle.server_read.proofs.WantedInPlace.{wanted-told}
 use Rattle.server_read.proofs.wanting.wanted.Goals as goal
 
