@@ -5,13 +5,9 @@ use mathlib.Core.List.{List}
 use mathlib.Core.Bool.{Bool, true, false}
 use lib.Dec.{eqb}
 use borrow.Author.Tests.{eqb-true, lt-ltb}
-use denote.Laws.{Is}
-use denote.Struct.Laws as LL
 use Rattle.masks.proofs.Bools.{and_yes-l, and_yes_r, true_and_false, not_true_false}
 use Rattle.rules.specs.Choice.{◌if◌else◌}
 use Rattle.rules.specs.Flags.{there}
-use Rattle.rules.specs.contracts.Set as RSet
-use Rattle.rules.proofs.Set.TheLaws as LSet
 use Rattle.wire.specs.declared.Decoded.{Decoded}
 use Rattle.wire.specs.declared.Message.{Message}
 use Rattle.wire.specs.Bytes.{decode}
@@ -20,10 +16,6 @@ use Rattle.wire.specs.Encoding.{encode}
 use Rattle.wire.specs.Holding.{SetFits}
 use Rattle.wire.specs.Messages.{commit_ok}
 use Rattle.wire.proofs.Columns.{commit-codes}
-use Rattle.wire.specs.contracts.Decoded as RDecoded
-use Rattle.wire.proofs.Decoded.TheLaws as LDecoded
-use Rattle.wire.specs.contracts.Message as RMessage
-use Rattle.wire.proofs.Message.TheLaws as LMessage
 use Rattle.server.specs.declared.Changed.{Changed}
 use Rattle.server.specs.declared.Record.{Record}
 use Rattle.server.specs.declared.Served.{Served}
@@ -35,8 +27,6 @@ use Rattle.server.specs.Run.{run_all}
 use Rattle.server.specs.Serve.{arrival_for, serve}
 use Rattle.server.proofs.Passed.{passed, number_below}
 use Rattle.server.proofs.DoesIs.{at-commit, step-runs}
-use Rattle.server.specs.contracts.Server as RServer
-use Rattle.server.proofs.Server.TheLaws as LServer
 use Rattle.server_step.specs.declared.Considered.{Considered}
 use Rattle.server_step.specs.OneStore.{considered, runs_after}
 use Rattle.server_step.proofs.StepIsServe.{step-alone, considered-taken}

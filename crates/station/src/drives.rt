@@ -8,12 +8,7 @@ use drive::Drive;
 use rules::Pieces;
 
 // Ballot 0, phase 1, by the origin of `t`, in the lent place, whatever stood there. Each of these answers the refusal, or 0.
-pub fn drobulets_drive_start(
-    d: &mut Drive,
-    coordinator: u32,
-    t: u32,
-    pieces: Pieces,
-) -> u32
+pub fn drobulets_drive_start(d: &mut Drive, coordinator: u32, t: u32, pieces: Pieces) -> u32
     ensures { (result ≡ (start d.old coordinator t pieces).refusal)
         × (d.new ≡ (start d.old coordinator t pieces).drive) }
 {

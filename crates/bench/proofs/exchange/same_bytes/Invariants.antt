@@ -1,6 +1,5 @@
 -- `bench::exchange::same_bytes` never reads past the end. Assumes nothing.
 use Prim.Native.Nat.{◌≤◌, ◌-◌}
-use borrow.Author.Rules.{rules}
 use Rattle.bench.proofs.exchange.same_bytes.Given as goal
 
 abbrev pub invariant-loop-i : goal.invariant-loop-i

@@ -1,6 +1,5 @@
 -- What is bare is made in place; the rest is decoded and given on. Assumes nothing.
 use mathlib.Core.Path.{sym, ◌∙◌}
-use borrow.Author.Rules.{rules}
 use Rattle.station.proofs.by_value.drobulets_decode.Goals as goal
 
 pub decode_bare-requires : goal.decode_bare-requires

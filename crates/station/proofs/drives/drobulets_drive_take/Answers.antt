@@ -1,5 +1,5 @@
 -- `drobulets_drive_take` meets its contract: what the reply comes to is stored, each part in its place.
-use Rattle.std.proofs.Common.{◌≡◌, ◌<◌, ◌∙◌, sym, arith}
+use Rattle.std.proofs.Common.{◌<◌, ◌∙◌, sym, arith}
 use Rattle.station.proofs.Ends.{drive-take-told, drive-take-place-below, drive-take-left-refused, drive-take-left-turns, drive-take-left}
 use Rattle.station.proofs.drives.drobulets_drive_take.Goals as goal
 

@@ -1,5 +1,5 @@
 -- `station::servers::commit` meets its contract: what runs is planned before anything is stored; then the record is stored, and the plan runs.
-use Rattle.std.proofs.Common.{◌≡◌, ◌<◌, ◌∙◌, sym, refl, arith}
+use Rattle.std.proofs.Common.{◌≡◌, ◌<◌, ◌∙◌, sym, arith}
 use Rattle.station.specs.Commits.{plan_for}
 use Rattle.station.proofs.Ends.{commit-place-in-below, commit-told, commit-written, commit-left-answer-refused, commit-left}
 use Rattle.station.proofs.servers.commit.Goals as goal

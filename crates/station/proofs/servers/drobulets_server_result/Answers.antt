@@ -1,5 +1,5 @@
 -- `drobulets_server_result` meets its contract: the record of the number is read in its place.
-use Rattle.std.proofs.Common.{◌≡◌, ◌<◌, ◌∙◌, arith}
+use Rattle.std.proofs.Common.{◌<◌, arith}
 use Rattle.station.proofs.Ends.{server-result-place-of-below, server-result-told}
 use Rattle.station.proofs.servers.drobulets_server_result.Goals as goal
 

@@ -1,6 +1,5 @@
 -- `drobulets_server_take` meets its contract: a Commit runs what is ready; every other message stores the one record.
-use Rattle.std.proofs.Common.{◌≡◌, ◌<◌, ◌∙◌, sym, subst, arith}
-use Rattle.wire.specs.declared.Decoded.{Decoded}
+use Rattle.std.proofs.Common.{◌<◌, ◌∙◌, sym, subst, arith}
 use Rattle.wire.specs.Bytes.{decode}
 use Rattle.server_read.proofs.Sizes.{Told}
 use Rattle.station.proofs.CommitTaken.{TypedDecoded}

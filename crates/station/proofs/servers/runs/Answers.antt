@@ -1,5 +1,4 @@
 -- `station::servers::runs` meets its contract: what is planned runs.
-use Rattle.std.proofs.Common.{◌≡◌, ◌∙◌, ap, ap₂}
 use Rattle.server_read.proofs.Sizes.{Told}
 use Rattle.station.proofs.Ends.{runs-told, runs_left}
 use Rattle.station.proofs.servers.runs.Goals as goal
