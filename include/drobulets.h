@@ -1,6 +1,6 @@
 /*
  * Drobulets: one server and one coordinator drive of the Janus protocol, and the XDR codec between them.
- * Link target/staticlib/libstation.a (made by `rt staticlib station`), for x86-64 Linux. It needs memcpy and memset alone.
+ * Link target/staticlib/libstation.a (made by `tests/archive`), for x86-64 Linux. It needs memcpy and memset alone.
  *
  * What the host must ensure, since nothing here can check it:
  *  - each pointer is good for the whole call, and aligned as its type asks;

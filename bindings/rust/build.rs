@@ -14,7 +14,7 @@ fn main() {
     let archive = folder.join("libstation.a");
     assert!(
         archive.is_file(),
-        "there is no {}: `rt staticlib station` makes it, and DROBULETS_LIB names its folder",
+        "there is no {}: `tests/archive` makes it, and DROBULETS_LIB names its folder",
         archive.display()
     );
     println!("cargo:rerun-if-changed={}", archive.display());
