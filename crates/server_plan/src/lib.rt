@@ -78,22 +78,29 @@ pub fn waiting_in(s: &Server, word: u64, many: usize) -> Waiting
     d
 }
 
+// The numbers of a group at the end of a log in its place, while there is room.
+fn log_group(l: &mut Log, g: u64)
+    ensures { l.new ≡ logged_of l.old g 64 }
+{
+    for u in 0..64 {
+        if masks::has(g, u) {
+            let n = l.count;
+            if n < 64 {
+                let end = n as usize;
+                l.list[end] = u as u32;
+                l.count = n + 1;
+            }
+        }
+    }
+}
+
 // The numbers of a group at the end of the log, while there is room.
 pub fn logged(log: Log, g: u64) -> Log
     ensures { result ≡ logged_of log g 64 }
 {
-    let mut list = log.list;
-    let mut n = log.count;
-    for u in 0..64 {
-        if masks::has(g, u) {
-            if n < 64 {
-                let end = n as usize;
-                list[end] = u as u32;
-                n += 1;
-            }
-        }
-    }
-    Log { list, count: n }
+    let mut l = log;
+    log_group(&mut l, g);
+    l
 }
 
 // The log after at most `limit` runs. Where all that is committed has run, nothing is looked for.
@@ -108,12 +115,11 @@ pub fn planned_log(rows: [u64; 64], committed: u64, ran: u64, log: Log, limit: u
         if done {
             break;
         }
-        let g = graph::next_group(rows, committed, r);
+        let g = graph::next_group_at(&rows, committed, r);
         if g == 0 {
             break;
         }
-        let more = logged(l, g);
-        l = more;
+        log_group(&mut l, g);
         r = masks::union(r, g);
         left -= 1;
     }

@@ -10,8 +10,8 @@ loop-left-init c = refl
 
 pub loop-left-preserved : goal.loop-left-preserved
 loop-left-preserved c =
-    let found = c.next_group-g in
-    rw (c.union-r.ensures, c.logged-more.ensures)
+    let found = c.next_group_at-g in
+    rw (c.union-r.ensures, c.log_group.ensures)
     (sym (planned-more c.args.rows c.args.committed c.loop-left.left c.loop-left.r found.result c.loop-left.l (omega arith) found.ensures c.if-g-eq0.false) ∙ c.loop-left.invariant)
 
 pub returns-after-loop-left : goal.returns-after-loop-left
@@ -24,4 +24,4 @@ returns-then-done c =
     sym (planned-stop rows committed c.loop-left.left c.loop-left.r (next_group rows committed c.loop-left.r) c.loop-left.l refl (covered_none rows committed c.loop-left.r (sym c.within-done.ensures ∙ c.if-done.true))) ∙ c.loop-left.invariant
 
 pub returns-then-g-eq0 : goal.returns-then-g-eq0
-returns-then-g-eq0 c = let found = c.next_group-g in sym (planned-stop c.args.rows c.args.committed c.loop-left.left c.loop-left.r found.result c.loop-left.l found.ensures c.if-g-eq0.true) ∙ c.loop-left.invariant
+returns-then-g-eq0 c = let found = c.next_group_at-g in sym (planned-stop c.args.rows c.args.committed c.loop-left.left c.loop-left.r found.result c.loop-left.l found.ensures c.if-g-eq0.true) ∙ c.loop-left.invariant

@@ -1,4 +1,4 @@
--- `graph::first_ready` meets its contract: no number below t is ready, and t waits for none below u.
+-- `graph::first_ready_at` meets its contract: no number below t is ready, and t waits for none below u.
 -- Assumes nothing.
 use mathlib.Core.Path.{◌≡◌, sym, ap, ◌∙◌}
 use mathlib.Core.Bool.{false}
@@ -13,8 +13,8 @@ use Rattle.graph.specs.Walk.{before, awaited, ready, first_ready}
 use Rattle.graph.proofs.Arrays.{words}
 use Rattle.graph.proofs.Waiting.{not-waiting, still-awaiting, nothing-awaited}
 use Rattle.graph.proofs.InWords.{walk-starts}
-use Rattle.graph.proofs.first_ready.Goals as goal
-use Rattle.graph.proofs.first_ready.Goals.{then-waits+else-u-eq64+then-awaits, else-waits}
+use Rattle.graph.proofs.first_ready_at.Goals as goal
+use Rattle.graph.proofs.first_ready_at.Goals.{then-waits+else-u-eq64+then-awaits, else-waits}
 
 pub search-init : goal.search-init
 search-init c = (search rules, below_none _)
@@ -35,7 +35,7 @@ pub walk_from-u-requires : goal.walk_from-u-requires
 walk_from-u-requires c = omega arith
 
 pub loop-u-init : goal.loop-u-init
-loop-u-init c = walk-starts c.args.rows c.args.ran c.search.t (omega arith) c.without.result c.without.ensures c.walk_from-u.result c.walk_from-u.ensures
+loop-u-init c = walk-starts c.args.rows.now c.args.ran c.search.t (omega arith) c.without.result c.without.ensures c.walk_from-u.result c.walk_from-u.ensures
 
 pub offset_bounds-rows-u : goal.offset_bounds-rows-u
 offset_bounds-rows-u c = omega arith
@@ -65,10 +65,10 @@ search-smaller c = omega arith
 pub search-preserved : goal.search-preserved
 unfolding awaited before
 search-preserved c =
-    let rows = c.args.rows in
+    let rows = c.args.rows.now in
     let ran = c.args.ran in
     let t = c.search.t in
-    let word = words rows c.well_formed.0 t in
+    let word = c.fits-rows t in
     let passed : ready rows c.args.committed ran t ≡ false =
     elim c.if-waits.branch [
       | then-waits+else-u-eq64+then-awaits w ↦ still-awaiting rows _ t ran word (any_of (awaited rows ran t) 64 w.loop-u.u (omega arith) (sym w.awaits.ensures ∙ w.if-awaits.true))
@@ -78,15 +78,15 @@ search-preserved c =
 
 pub returns-then-t-eq64 : goal.returns-then-t-eq64
 unfolding first_ready
-returns-then-t-eq64 c = sym (least_all_no (ready c.args.rows c.args.committed c.args.ran) 64 (λ k h. c.search.invariant.1 k (omega arith)))
+returns-then-t-eq64 c = sym (least_all_no (ready c.args.rows.now c.args.committed c.args.ran) 64 (λ k h. c.search.invariant.1 k (omega arith)))
 
 pub returns-then-u-eq64 : goal.returns-then-u-eq64
 unfolding first_ready
 returns-then-u-eq64 c =
-    let rows = c.args.rows in
+    let rows = c.args.rows.now in
     let t = c.search.t in
     let end : c.loop-u.u ≡ 64 = c.if-u-eq64.true in
     sym (found_least (ready rows c.args.committed c.args.ran) 64 t (omega arith)
-    (nothing-awaited rows _ t _ (words rows c.well_formed.0 t) (sym c.waits.ensures ∙ c.if-waits.true)
+    (nothing-awaited rows _ t _ (c.fits-rows t) (sym c.waits.ensures ∙ c.if-waits.true)
     (sym (ap (any_below (awaited rows c.args.ran t)) end) ∙ c.loop-u.invariant.1))
     c.search.invariant.1)

@@ -1,11 +1,11 @@
--- `graph::first_ready` meets its contract: no number below t is ready, and t waits for none below u.
+-- `graph::first_ready_at` meets its contract: no number below t is ready, and t waits for none below u.
 -- Assumes nothing.
 use mathlib.Core.Path.{◌≡◌}
 use mathlib.Core.Bool.{false}
 use Prim.Native.Nat.{ℕ, ◌-◌, ◌≤◌, ◌<◌}
 use Rattle.masks.specs.Folds.{any_below}
 use Rattle.graph.specs.Walk.{awaited, ready}
-use Rattle.graph.proofs.first_ready.Given as goal
+use Rattle.graph.proofs.first_ready_at.Given as goal
 
 abbrev pub invariant-loop-u : goal.invariant-loop-u
 invariant-loop-u l = (l.u ≤ 64) × (any_below (awaited l.rows l.ran l.t) l.u ≡ false)
