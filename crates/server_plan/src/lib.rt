@@ -130,8 +130,8 @@ pub fn planned_log(rows: [u64; 64], committed: u64, ran: u64, log: Log, limit: u
 pub fn plan_by(f: Form, d: Waiting, log: Log, limit: u32) -> Planned
     ensures { result ≡ planned_by f d.deps d.committed log limit }
 {
-    let deps = d.deps;
-    let rows = graph::closure(deps);
+    let mut rows = d.deps;
+    graph::close(&mut rows);
     let l = planned_log(rows, d.committed, f.word, log, allowed(f.fine, limit));
     let plan = Plan {
         shard: f.shard,

@@ -4,4 +4,4 @@ use Rattle.server_plan.proofs.plan_by.Goals as goal
 
 pub returns : goal.returns
 unfolding planned_by
-returns c = rw (c.more.ensures, c.refusal_of.ensures, c.planned_log-l.ensures, c.allowed.ensures, c.closure-rows.ensures)
+returns c = rw (c.more.ensures, c.refusal_of.ensures, c.planned_log-l.ensures, c.allowed.ensures, c.close.ensures)

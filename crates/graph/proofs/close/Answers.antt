@@ -1,4 +1,4 @@
--- `graph::closure` meets its contract: after k turns the rows are those of k passes, and `common` is part of each; within a pass the first t rows are done.
+-- `graph::close` meets its contract: after k turns the rows are those of k passes, and `common` is part of each; within a pass the first t rows are done.
 -- Assumes nothing.
 use mathlib.Core.Path.{◌≡◌, refl, sym, ap, ◌∙◌}
 use Prim.Native.Nat.{ℕ, ◌+◌}
@@ -10,12 +10,12 @@ use Rattle.graph.specs.Walk.{grown, passes, rows_of}
 use Rattle.graph.proofs.Arrays.{words, long}
 use Rattle.graph.proofs.Places.{upto-none}
 use Rattle.graph.proofs.InPlace.{shared_more, Common, common_none, next_row, row_done, made, left}
-use Rattle.graph.proofs.closure.Goals as goal
-use Rattle.graph.proofs.closure.Goals.{then-not-within+else-loop-t-test, else-not-within}
+use Rattle.graph.proofs.close.Goals as goal
+use Rattle.graph.proofs.close.Goals.{then-not-within+else-loop-t-test, else-not-within}
 
 pub loop-k-init : goal.loop-k-init
 unfolding passes
-loop-k-init c = (search rules, refl, common_none c.args.deps 64)
+loop-k-init c = (search rules, refl, common_none c.args.rows.now 64)
 
 pub loop-t-init : goal.loop-t-init
 loop-t-init c = (search rules, sym (upto-none _ _), below_none _)
@@ -36,17 +36,17 @@ loop-t-preserved c =
 
 pub loop-k-preserved : goal.loop-k-preserved
 loop-k-preserved c =
-    let deps = c.args.deps in
+    let deps = c.args.rows.now in
     let k = c.loop-k.k in
     let rows = c.loop-k.rows in
     let same = c.loop-k.invariant.1 in
-    let size = long deps c.well_formed.0 in
+    let size = c.told-rows in
     let turn : (c.if-not-within.rows ≡ passes (k + 1) deps) × Common c.if-not-within.rows c.if-not-within.common 64 =
     elim c.if-not-within.branch [
       | then-not-within+else-loop-t-test w ↦ rw (w.rows-is, w.common-is)
           (made deps k rows same size w.loop-t.t (omega arith) w.loop-t.common w.loop-t.invariant.2 w.loop-t.rows w.loop-t.invariant.1)
       | else-not-within w ↦ rw (w.rows-is, w.common-is)
-          (left deps k rows same size (words deps c.well_formed.0) c.loop-k.common c.loop-k.invariant.2 (sym c.within.ensures ∙ w.if-not-within.false), c.loop-k.invariant.2)
+          (left deps k rows same size (c.fits-rows) c.loop-k.common c.loop-k.invariant.2 (sym c.within.ensures ∙ w.if-not-within.false), c.loop-k.invariant.2)
     ] in
     (search rules, turn.0, turn.1)
 
@@ -54,4 +54,4 @@ pub returns : goal.returns
 unfolding rows_of
 returns c =
     let at-end : c.loop-k.k ≡ 64 = omega arith in
-    c.loop-k.invariant.1 ∙ ap (λ (n : ℕ). passes n c.args.deps) at-end
+    c.loop-k.invariant.1 ∙ ap (λ (n : ℕ). passes n c.args.rows.now) at-end

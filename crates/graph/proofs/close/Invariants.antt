@@ -1,11 +1,11 @@
--- `graph::closure` meets its contract: after k turns the rows are those of k passes, and `common` is part of each; within a pass the first t rows are done.
+-- `graph::close` meets its contract: after k turns the rows are those of k passes, and `common` is part of each; within a pass the first t rows are done.
 -- Assumes nothing.
 use mathlib.Core.Path.{◌≡◌}
 use Prim.Native.Nat.{◌-◌, ◌≤◌}
 use Rattle.graph.specs.Walk.{grown, passes}
 use Rattle.graph.proofs.Places.{upto}
 use Rattle.graph.proofs.InPlace.{Shared, Common}
-use Rattle.graph.proofs.closure.Given as goal
+use Rattle.graph.proofs.close.Given as goal
 
 abbrev pub invariant-loop-t : goal.invariant-loop-t
 invariant-loop-t l = (l.t ≤ 64) × (l.rows ≡ upto (grown l.k l.own) l.t l.initial.rows) × Shared l.k l.own l.initial.rows l.common l.t
