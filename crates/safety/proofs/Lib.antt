@@ -46,3 +46,4 @@ pub mod SecondWitness
 pub mod Never13
 pub mod Theorem
 pub mod Plain
+pub mod PlainHolds

@@ -29,7 +29,6 @@ use Rattle.wire.specs.declared.Message.{Message}
 use Rattle.counters.specs.declared.Counters.{Counters}
 use Rattle.counters.specs.Effects.{counter_at}
 use Rattle.graph.specs.Before.{Before, direct, behind}
-use Rattle.server.specs.declared.Ran.{Ran}
 use Rattle.server.specs.Held.{record_at, entry_at, committed_word}
 use Rattle.server.specs.Run.{deps_of}
 use Rattle.server.proofs.FormParts.{Formed, formed_parts, logged-some, some-logged}
@@ -89,7 +88,7 @@ touched w t k e =
     (f.0, record { below = o.below; counted = o.counted; shard = o.shard })
 
 module _ (w : World) (c : Cluster) (r : Reached w c) where
-  safe : Safe w c
+  pub safe : Safe w c
   safe = (safety w).always c r
 
   -- ---- the logs
@@ -139,19 +138,19 @@ module _ (w : World) (c : Cluster) (r : Reached w c) where
 
   -- ---- the sentences
 
-  same-words : SameWords c
+  pub same-words : SameWords c
   same-words s s' t l l' n h h' =
       let e = safe.agreement s s' t _ _ (committed c s t h) (committed c s' t h') in
       (ap (λ (v : Set). v.w0) e, ap (λ (v : Set). v.w1) e, ap (λ (v : Set). v.w2) e, ap (λ (v : Set). v.w3) e)
 
-  one-has-the-other : OneHasTheOther w c
+  pub one-has-the-other : OneHasTheOther w c
   one-has-the-other s s' k t a u b l l' q n n' ne o h h' = go (safe.coverage s s' t u k _ _ (committed c s t h) (committed c s' u h') ne (conflicts w k t a u b o))
     where
       go : In (word (set_at c s t) k) u ⊎ In (word (set_at c s' u) k) t → (digit (word_at (set_at c s t) k) u ≡ 1) ⊎ (digit (word_at (set_at c s' u) k) t ≡ 1)
       go (inl i) = inl (digit_of (set_at c s t) k u q i)
       go (inr i) = inr (digit_of (set_at c s' u) k t q i)
 
-  never-turned : NeverTurned w c
+  pub never-turned : NeverTurned w c
   never-turned s s' k t a u b l l' q n n' o h h' =
       let x = pair s k t a u b o h in
       let y = pair s' k u b t a (turned o) h' in
@@ -163,7 +162,7 @@ module _ (w : World) (c : Cluster) (r : Reached w c) where
       let e' = same_place x.1 y.0 bx (omega arith) (x.5 ∙ sym y.4) in
       omega arith
 
-  one_list : OneList w c
+  pub one_list : OneList w c
   one_list = record {
     list = W;
     long = whole;
@@ -180,7 +179,7 @@ module _ (w : World) (c : Cluster) (r : Reached w c) where
     there = λ t e m. let p = touched w t k e in let l = in-logged s' t m in logged-in s t (h.there t p.0 (logged-small s' t l) p.1 l);
   }
 
-  same-shown : P.SameShown w c
+  pub same-shown : P.SameShown w c
   same-shown k s s' q l l' e e' h = record {
     keys = λ x i. ap (λ (z : Counters). (counter_at z x).value) both.counters;
     marks = λ x i. ap (λ (z : Counters). (counter_at z x).full) both.counters;
@@ -198,14 +197,14 @@ module _ (w : World) (c : Cluster) (r : Reached w c) where
   not-refused : (s : ℕ) (m : Message) → Reaches c m → NotRefused c s m
   not-refused s m h = (safe.never_other.pieces s m h, safe.never_other.sets s m h, safe.never13.takes s m)
 
-  sent-is-taken : SentIsTaken c
+  pub sent-is-taken : SentIsTaken c
   sent-is-taken = record {
     sent = λ s m l h. not-refused s m (Reaches.sent h);
     inquired = λ s t l. not-refused s (inquire t) (Reaches.inquires t refl);
     fetched = λ s t l. not-refused s (fetch t) (Reaches.fetches t refl);
   }
 
-  no-bad-form : NoBadForm c
+  pub no-bad-form : NoBadForm c
   no-bad-form = record {
     takes = λ s m l. safe.never13.takes s m;
     runs = λ s l. safe.never13.runs s;
@@ -216,7 +215,7 @@ module _ (w : World) (c : Cluster) (r : Reached w c) where
     tries_again = safe.never13.tries_again;
   }
 
-  server-kept : (s : ℕ) → s < 12 → ServerKept c s
+  pub server-kept : (s : ℕ) → s < 12 → ServerKept c s
   server-kept s l = record {
     records = safe.in_form.records s;
     words = λ t k n q h. subst (λ x. x < 2 ^ 64) (word_at_lem (set_at c s t) k q) (safe.in_form.words s t k (flagged h) q);
@@ -243,20 +242,13 @@ module _ (w : World) (c : Cluster) (r : Reached w c) where
     too : (t : ℕ) → C t → In (committed_word (c.servers s)) t
     too t q = committed_in_lem (c.servers s) t (small t q) (flagged (held t q))
 
-    all-ran : (t : ℕ) → C t → LoggedAt c s t
+    pub all-ran : (t : ℕ) → C t → LoggedAt c s t
     all-ran t q =
         let e = safe.nothing_left.closed s t (record { self = too t q; all = λ u b. too u (before t u q b) }) in
         let p = logged-some (c.servers s).log (c.servers s).log.count t (sym ((form s).results t (small t q)).ran ∙ e) in
         record { place = p.0; counted = p.1; is = p.2 }
 
-  nothing-waits : (s : ℕ) → s < 12 → NothingWaits c s
-  nothing-waits s l = record {
-    closed = all-ran s;
-    runs = let e = safe.nothing_left.runs s in (ap (λ (r : Ran). r.refusal) e, ap (λ (r : Ran). r.many) e, ap (λ (r : Ran). r.server) e);
-    runs_out = let e = safe.nothing_left.runs_out s in (ap (λ (r : Ran). r.refusal) e, ap (λ (r : Ran). r.many) e, ap (λ (r : Ran). r.server) e);
-  }
-
-  drive-kept : (j : ℕ) (d : Drive) → c.stations j ≡ some d → DriveKept d
+  pub drive-kept : (j : ℕ) (d : Drive) → c.stations j ≡ some d → DriveKept d
   unfolding numbers_formed
   drive-kept j d at =
       let f = D.formed_parts d (safe.in_form.drives j d at) in
@@ -277,7 +269,7 @@ module _ (w : World) (c : Cluster) (r : Reached w c) where
   reached-later P.same = r
   reached-later (P.then l n) = then (reached-later l) n
 
-  order-stays : {c' : Cluster} → Later w c c' → OrderStays c c'
+  pub order-stays : {c' : Cluster} → Later w c c' → OrderStays c c'
   order-stays P.same = record { longer = omega arith; same = λ p h. refl }
   order-stays (P.then {c' = d} {c'' = d'} l n) = more (order-stays l) ((safety w).order_grows d d' (reached-later l) n)
     where
@@ -288,18 +280,3 @@ module _ (w : World) (c : Cluster) (r : Reached w c) where
             longer = subst (λ (z : List ℕ). length c.order ≤ length z) (sym g.1) (omega (arith, length-append d.order g.0));
             same = λ p q. ap (λ (z : List ℕ). get_or z p 64) g.1 ∙ get_or-append d.order g.0 64 p (omega arith) ∙ h.same p q;
           }
-
-pub plain : (w : World) → Plain w
-plain w = record {
-  same_words = same-words w;
-  one_has_the_other = one-has-the-other w;
-  never_turned = never-turned w;
-  one_list = one_list w;
-  same_shown = same-shown w;
-  sent_is_taken = sent-is-taken w;
-  no_bad_form = no-bad-form w;
-  server_kept = server-kept w;
-  nothing_waits = nothing-waits w;
-  drive_kept = drive-kept w;
-  order_stays = λ c c' r l. order-stays w c r l;
-}

@@ -144,9 +144,8 @@ end = record {
   taken = record { number = 12; ballot = 0 } ∷ record { number = 9; ballot = 26 } ∷ record { number = 9; ballot = 10 } ∷ record { number = 9; ballot = 21 } ∷ record { number = 9; ballot = 0 } ∷ [];
 }
 
-happens : on_end end_of (play world script (at_first world)) ≡ some end
-unfolding scripts nine twelve tens world exchange gone recovery conflicting late telling script end_of second third end
-happens = refl
-
 pub second_witness : (w : World) × (c : Cluster) × Reached w c × (end_of c ≡ end)
-second_witness = let e = ends_with world script end_of end happens in (world, e.0, e.1, e.2)
+unfolding scripts nine twelve tens world exchange gone recovery conflicting late telling script end_of second third end
+second_witness =
+    let happens : on_end end_of (play world script (at_first world)) ≡ some end = refl in
+    let e = ends_with world script end_of end happens in (world, e.0, e.1, e.2)

@@ -94,9 +94,8 @@ end = record {
   taken = record { number = 8; ballot = 11 } ∷ record { number = 8; ballot = 0 } ∷ [];
 }
 
-happens : on_end end_of (play world script (at_first world)) ≡ some end
-unfolding scripts both world exchange recovery commitment rebuilding script end_of with5 end
-happens = refl
-
 pub witness : (w : World) × (c : Cluster) × Reached w c × (end_of c ≡ end)
-witness = let e = ends_with world script end_of end happens in (world, e.0, e.1, e.2)
+unfolding scripts both world exchange recovery commitment rebuilding script end_of with5 end
+witness =
+    let happens : on_end end_of (play world script (at_first world)) ≡ some end = refl in
+    let e = ends_with world script end_of end happens in (world, e.0, e.1, e.2)
