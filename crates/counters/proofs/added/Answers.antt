@@ -5,13 +5,15 @@ use lib.IntN.{ℤ, ◌+ℤ◌}
 use mir.Syntax.{w32, w64}
 use mir.Val.{SFits, of_z, to_z}
 use mir.Facts.{sfits_widen}
+use Rattle.std.proofs.Common.{not}
+use borrow.Author.Tests.{ne_eqb, eq-eqb}
 use Rattle.counters.specs.Effects.{leaves, holding, gives, added}
 use Rattle.counters.proofs.Signed.{back, wide, summed, sum_fits, in_range}
 use Rattle.counters.proofs.added.Goals as goal
 
 pub returns-then-stays : goal.returns-then-stays
 unfolding added
-returns-then-stays c = rw c.if-stays.true-raw c.gives.ensures
+returns-then-stays c = rw (ap not (ne_eqb _ 0 c.if-stays.true)) c.gives.ensures
 
 pub overflow_cast-sum : goal.overflow_cast-sum
 overflow_cast-sum c =
@@ -33,7 +35,7 @@ unfolding added leaves
 returns-then-sum c =
     let old : SFits w32 c.args.c.value = record { sfits = c.struct_told-1.given.0.1 } in
     let t = rw (summed _ _ old c.ranges.n) at c.if-sum.true in
-    rw (c.if-stays.false-raw, t) (c.gives-then-sum.ensures ∙ ap (λ (z : ℤ). gives (record { value = z; full = 1 }) 1) (back _ old))
+    rw (ap not (eq-eqb _ 0 c.if-stays.false), t) (c.gives-then-sum.ensures ∙ ap (λ (z : ℤ). gives (record { value = z; full = 1 }) 1) (back _ old))
 
 pub overflow_cast-holding : goal.overflow_cast-holding
 unfolding leaves
@@ -49,4 +51,4 @@ returns c =
     let old : SFits w32 c.args.c.value = record { sfits = c.struct_told-1.given.0.1 } in
     let e = summed _ _ old c.ranges.n in
     let t = rw e at c.if-sum.false in
-    rw (c.if-stays.false-raw, t) (c.gives-2.ensures ∙ ap (λ (z : ℤ). gives (holding z) 0) (ap (λ (z : ℤ). to_z w32 (of_z w32 z)) e ∙ back _ (in_range _ t)))
+    rw (ap not (eq-eqb _ 0 c.if-stays.false), t) (c.gives-2.ensures ∙ ap (λ (z : ℤ). gives (holding z) 0) (ap (λ (z : ℤ). to_z w32 (of_z w32 z)) e ∙ back _ (in_range _ t)))
