@@ -1,6 +1,6 @@
 -- Document 02, request 3: a record's line: its number, the seconds, the code, T, and the answer's code, or `r` and the refusal; decimals, with single spaces between.
 -- A dash stands for a coordinator's answer, and for the code and T of data that can't be decoded.
-use Rattle.std.specs.Prelude.{ℕ, zero, suc, ◌+◌, ◌/◌, ◌%◌, Bool, cond, List, [], ◌∷◌, ◌++◌, ltb}
+use Rattle.std.specs.Prelude.{ℕ, zero, suc, ◌+◌, ◌/◌, ◌%◌, Bool, List, [], ◌∷◌, ◌++◌, ltb}
 use Rattle.rules.specs.Choice.{◌if◌else◌}
 use Rattle.capture.specs.declared.Shown.{Shown}
 use Rattle.capture.specs.declared.Shown.TheVariants.{Dash, Code, Refusal}

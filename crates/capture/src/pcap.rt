@@ -14,6 +14,7 @@ const MAGIC: u32 = 0xa1b2c3d4;
 const LINK: u32 = 147;
 
 // The version and the link type.
+#[tactic(auto, unfolding(crate::specs::Pcap::headed))]
 fn headed(little: bool, s: &[u8]) -> bool
     requires { 24 ≤ length s.now }
     ensures { result ≡ headed little s.now }

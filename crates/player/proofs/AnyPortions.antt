@@ -1,20 +1,19 @@
 -- However the file is cut into portions, and whatever room there is for lines, the calls print what the definition says of the whole file. Assumes nothing.
-use Rattle.std.proofs.Common.{◌≡◌, ℕ, zero, suc, ◌+◌, ◌-◌, ◌<◌, ◌≤◌, Bool, true, false, not, ◌&&◌, ◌||◌, eqb, ltb, leb, List, [], ◌∷◌, ◌++◌, length, take, drop, replicate, sym, refl, ap, ◌∙◌, true≢false, append_assoc, append-nil, arith, length-drop, take-append-drop, length-take, length-take-le, take_all, drop-drop, ltb-true, le-ltb, lt-ltb, eq-eqb, ne_eqb, eqb-true, le-leb}
-use native.Mathlib.Decide.{ℕ_discrete, dec_le}
-use lib.ListN.{length-replicate}
+use Rattle.std.proofs.Common.{◌≡◌, ℕ, zero, suc, ◌-◌, ◌<◌, ◌≤◌, Bool, true, false, not, ◌||◌, eqb, ltb, List, [], ◌∷◌, ◌++◌, length, take, drop, sym, refl, ap, ◌∙◌, true≢false, append_assoc, append-nil, arith, length-drop, take-append-drop, length-take, drop-drop, lt-ltb, eq-eqb, ne_eqb, le-leb}
+use native.Mathlib.Decide.{dec_le}
 use lib.Seq.{drop-append-le}
 use Rattle.rules.specs.Choice.{◌if◌else◌}
 use Rattle.server.specs.declared.Server.{Server}
-use Rattle.capture.specs.Pcap.{HEADER, HEAD, header, head}
+use Rattle.capture.specs.Pcap.{HEADER, HEAD, header}
 use Rattle.capture.specs.Text.{LINE, line, bad_header, cut_record}
 use Rattle.player.specs.declared.Walk.{Walk}
-use Rattle.player.specs.Replay.{twelve, Played, played, Printed, ended, stopped, ◌then◌, next, records, opened, replay}
-use Rattle.player.specs.Walking.{WINDOW, OPENING, HEADS, DATA, OVER, begun, seen, going, takes, filled, reads, after_header, after_head, turned, whole, after_data, Chewed, bite, unchewed, more, chew, chewed, ending}
+use Rattle.player.specs.Replay.{played, Printed, ended, stopped, ◌then◌, records, opened, replay}
+use Rattle.player.specs.Walking.{WINDOW, OPENING, HEADS, DATA, OVER, begun, seen, going, takes, filled, turned, whole, after_data, Chewed, bite, unchewed, more, chew, chewed, ending}
 use Rattle.player.specs.Portions.{Stage, at_first, Call, call, calls, Finished, no_more, nothing_read, printed}
 use Rattle.player.proofs.RecordsAre.{records_is}
 use Rattle.player.proofs.Resting.{rest, Holds, rest-opens, rest-heads, rest-data, rest_over, filled-holds, filled-rest, Phase, opens, heading, in_data, over, phase_of}
-use Rattle.player.proofs.Rests.{Rests, reads_heads, Turned, a-record, a-rest, turned_is, data_rests}
-use Rattle.player.proofs.Turning.{seen-length, turned_more, turned-header, turned-head, turned_none, data-whole, turned-rest}
+use Rattle.player.proofs.Rests.{Rests, Turned, a-record, a-rest, turned_is, data_rests}
+use Rattle.player.proofs.Turning.{seen-length, data-whole, turned-rest}
 
 -- a line, and then a line, and then what follows
 then_then : (l m : List ℕ) (p : Printed) → (l then (m then p)) ≡ ((l ++ m) then p)

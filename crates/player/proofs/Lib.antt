@@ -6,3 +6,5 @@ pub mod Resting
 pub mod Turning
 pub mod Rests
 pub mod AnyPortions
+pub mod Bites
+pub mod Within

@@ -1,5 +1,5 @@
 -- A list taken in portions: of n elements wanted, those that a portion xs has, and then the rest of them from what comes after it. Assumes nothing.
-use Rattle.std.proofs.Common.{◌≡◌, ℕ, zero, suc, ◌+◌, ◌-◌, ◌<◌, ◌≤◌, min, Bool, ltb, List, [], ◌∷◌, ◌++◌, length, take, drop, sym, refl, ap, ◌∙◌, append_assoc, arith, length-append, length-drop, take-append-drop, length-take, length-take-le, take_all, take-take, drop-drop, le-ltb, lt-ltb}
+use Rattle.std.proofs.Common.{◌≡◌, ℕ, ◌+◌, ◌-◌, ◌≤◌, min, ltb, List, ◌++◌, length, take, drop, sym, ap, ◌∙◌, append_assoc, arith, length-append, length-drop, take-append-drop, length-take-le, take_all, take-take, drop-drop, le-ltb, lt-ltb}
 use native.Mathlib.Decide.{dec_le}
 use lib.Seq.{take-append-le, take-append-add, drop-append-le}
 

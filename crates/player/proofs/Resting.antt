@@ -1,16 +1,14 @@
 -- What a walk that stands somewhere prints of the bytes to come, and that keeping bytes, turning to what follows, and a record's line keep it. Assumes nothing.
-use Rattle.std.proofs.Common.{◌≡◌, ℕ, zero, suc, ◌+◌, ◌-◌, ◌<◌, ◌≤◌, min, Bool, true, false, cond, eqb, ltb, List, [], ◌∷◌, ◌++◌, length, take, drop, sym, refl, ap, ◌∙◌, append_assoc, append-nil, arith, length-append, length-take-le, take_all, take_at, drop_at, le-ltb, lt-ltb, eq-eqb, ne_eqb}
-use native.Mathlib.Decide.{ℕ_discrete, dec_le}
+use Rattle.std.proofs.Common.{◌≡◌, ℕ, ◌+◌, ◌-◌, ◌≤◌, min, Bool, eqb, ltb, List, ◌++◌, length, take, drop, sym, ap, ◌∙◌, append_assoc, arith, length-take-le, ne_eqb}
+use native.Mathlib.Decide.{ℕ_discrete}
 use lib.Seq.{take-paste, length-paste}
 use Rattle.rules.specs.Choice.{◌if◌else◌}
 use Rattle.server.specs.declared.Server.{Server}
-use Rattle.capture.specs.Pcap.{HEADER, HEAD, header, head}
+use Rattle.capture.specs.Pcap.{HEADER, HEAD}
 use Rattle.capture.specs.Text.{line, bad_header, cut_record}
-use Rattle.capture.specs.declared.Header.{Header}
 use Rattle.player.specs.declared.Walk.{Walk}
-use Rattle.player.specs.Replay.{Played, played, Printed, ended, stopped, ◌then◌, next, records, opened}
-use Rattle.player.specs.Walking.{WINDOW, OPENING, HEADS, DATA, OVER, seen, takes, keeps, filled, reads, after_header, after_head, turned, after_data}
-use Rattle.player.proofs.WindowPlays.{window-plays}
+use Rattle.player.specs.Replay.{Played, played, Printed, stopped, ◌then◌, next, records, opened}
+use Rattle.player.specs.Walking.{WINDOW, OPENING, HEADS, DATA, seen, takes, keeps, filled}
 use Rattle.player.proofs.Lists.{portion-seam, portion-drop, portion-short, portion-window}
 
 -- a record's line, and the records after it

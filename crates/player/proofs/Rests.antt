@@ -1,19 +1,12 @@
 -- What is true of a walk between two bites, and that a bite ends in a record that is whole or in such a walk. Assumes nothing.
-use Rattle.std.proofs.Common.{◌≡◌, ℕ, zero, suc, ◌+◌, ◌-◌, ◌<◌, ◌≤◌, Bool, true, false, cond, not, ◌&&◌, ◌||◌, eqb, ltb, leb, List, [], ◌∷◌, ◌++◌, length, take, drop, replicate, sym, refl, ap, ◌∙◌, append_assoc, append-nil, arith, length-drop, take-append-drop, length-take, length-take-le, take_all, drop-drop, ltb-true, le-ltb, lt-ltb, eq-eqb, ne_eqb, eqb-true, le-leb}
+use Rattle.std.proofs.Common.{◌≡◌, ℕ, ◌<◌, ◌≤◌, Bool, true, false, ◌&&◌, eqb, take, refl, arith, eq-eqb, ne_eqb}
 use native.Mathlib.Decide.{ℕ_discrete, dec_le}
-use lib.ListN.{length-replicate}
-use lib.Seq.{drop-append-le}
 use Rattle.rules.specs.Choice.{◌if◌else◌}
-use Rattle.server.specs.declared.Server.{Server}
 use Rattle.capture.specs.Pcap.{HEADER, HEAD, header, head}
-use Rattle.capture.specs.Text.{LINE, line, bad_header, cut_record}
 use Rattle.player.specs.declared.Walk.{Walk}
-use Rattle.player.specs.Replay.{twelve, Played, played, Printed, ended, stopped, ◌then◌, next, records, opened, replay}
-use Rattle.player.specs.Walking.{WINDOW, OPENING, HEADS, DATA, OVER, begun, seen, going, takes, filled, reads, after_header, after_head, turned, whole, after_data, Chewed, bite, unchewed, more, chew, chewed, ending}
-use Rattle.player.specs.Portions.{Stage, at_first, Call, call, calls, Finished, no_more, nothing_read, printed}
-use Rattle.player.proofs.RecordsAre.{records_is}
-use Rattle.player.proofs.Resting.{rest, Holds, rest-opens, rest-heads, rest-data, rest_over, filled-holds, filled-rest, Phase, opens, heading, in_data, over, phase_of}
-use Rattle.player.proofs.Turning.{seen-length, turned_more, turned-header, turned-head, turned_none, data-whole, turned-rest}
+use Rattle.player.specs.Walking.{HEADS, DATA, OVER, reads, after_header, after_head, turned, whole, after_data}
+use Rattle.player.proofs.Resting.{Holds, Phase, opens, heading, in_data, over, phase_of}
+use Rattle.player.proofs.Turning.{turned_more, turned-header, turned-head, turned_none}
 
 -- and where something is read, bytes of it are still to come
 pub record Rests (w : Walk) : Type 0 where

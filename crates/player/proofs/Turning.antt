@@ -1,6 +1,6 @@
 -- Where a header, a head or a record's data is whole, what the walk turns to prints the same of the bytes to come. Assumes nothing.
-use Rattle.std.proofs.Common.{◌≡◌, ℕ, zero, suc, ◌+◌, ◌-◌, ◌<◌, ◌≤◌, Bool, true, false, eqb, ltb, List, [], ◌∷◌, ◌++◌, length, take, drop, sym, refl, ap, ◌∙◌, append-nil, arith, length-append, length-take-le, take_all, drop-drop, take_at, drop_at, le-ltb, lt-ltb, eq-eqb, ne_eqb}
-use native.Mathlib.Decide.{ℕ_discrete, dec_le}
+use Rattle.std.proofs.Common.{◌≡◌, ℕ, ◌+◌, ◌≤◌, Bool, true, false, ltb, List, ◌++◌, length, take, drop, sym, refl, ap, ◌∙◌, append-nil, arith, length-append, length-take-le, take_all, drop-drop, take_at, drop_at, le-ltb, lt-ltb, eq-eqb, ne_eqb}
+use native.Mathlib.Decide.{dec_le}
 use Rattle.rules.specs.Choice.{◌if◌else◌}
 use Rattle.server.specs.declared.Server.{Server}
 use Rattle.capture.specs.Pcap.{HEADER, HEAD, header, head}
@@ -8,11 +8,11 @@ use Rattle.capture.specs.Text.{line, bad_header, cut_record}
 use Rattle.capture.specs.declared.Header.{Header}
 use Rattle.capture.specs.declared.Head.{Head}
 use Rattle.player.specs.declared.Walk.{Walk}
-use Rattle.player.specs.Replay.{Played, played, Printed, ended, stopped, ◌then◌, next, records, opened}
+use Rattle.player.specs.Replay.{Played, played, Printed, stopped, ◌then◌, next, records, opened}
 use Rattle.player.specs.Walking.{WINDOW, OPENING, HEADS, DATA, OVER, seen, reads, after_header, after_head, turned, after_data}
 use Rattle.player.proofs.RecordsAre.{records_is}
 use Rattle.player.proofs.WindowPlays.{window-plays}
-use Rattle.player.proofs.Resting.{lined, data_by, data_rest, rest, Holds, rest-opens, rest-heads, rest-data, rest_over, Phase, opens, heading, in_data, over, phase_of}
+use Rattle.player.proofs.Resting.{lined, data_by, rest, Holds, rest-opens, rest-heads, rest-data, Phase, opens, heading, in_data, over, phase_of}
 
 ltb-add : (k a b : ℕ) → ltb (k + a) (k + b) ≡ ltb a b
 ltb-add k a b = go (dec_le b a)

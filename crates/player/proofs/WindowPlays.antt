@@ -1,5 +1,5 @@
 -- What is played depends on the window's bytes alone: a destination, and what decoding can look at. Assumes nothing.
-use Rattle.std.proofs.Common.{◌≡◌, ℕ, zero, suc, ◌+◌, ◌≤◌, min, Bool, ltb, leb, List, [], ◌∷◌, length, get_or, take, drop, set, sym, refl, ap, ◌∙◌, suc-add, zero-add, arith, length-take, take_all, take-take, le-ltb}
+use Rattle.std.proofs.Common.{◌≡◌, ℕ, zero, suc, ◌+◌, ◌≤◌, Bool, ltb, leb, List, [], ◌∷◌, length, get_or, take, drop, set, sym, refl, ap, ◌∙◌, suc-add, zero-add, arith, length-take, take_all, take-take, le-ltb}
 use native.Mathlib.Decide.{dec_le}
 use lib.Seq.{take-nil}
 use Rattle.rules.specs.Choice.{◌if◌else◌}

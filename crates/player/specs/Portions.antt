@@ -1,5 +1,5 @@
 -- The program's calls: each is lent the next bytes of the file, as many as the program has read, and room for as many bytes of lines as it likes. What a call doesn't take, a later call is lent again.
-use Rattle.std.specs.Prelude.{◌≡◌, ℕ, Bool, true, false, List, [], ◌∷◌, ◌++◌, take, drop}
+use Rattle.std.specs.Prelude.{◌≡◌, ℕ, false, List, [], ◌∷◌, ◌++◌, take, drop}
 use Rattle.server.specs.declared.Server.{Server}
 use Rattle.player.specs.declared.Walk.{Walk}
 use Rattle.player.specs.Replay.{twelve, Printed}

@@ -1,5 +1,5 @@
 -- The same as it is computed, from portions of the file as they come. Only the bytes of a window are kept: a header, a head, or the first bytes of a record's data, no more than decoding can look at.
-use Rattle.std.specs.Prelude.{ℕ, zero, suc, ◌+◌, ◌-◌, min, Bool, true, false, not, ◌&&◌, ◌||◌, List, [], ◌∷◌, ◌++◌, length, take, drop, replicate, ◌==◌, nat_le, nat_lt}
+use Rattle.std.specs.Prelude.{ℕ, zero, suc, ◌+◌, ◌-◌, min, Bool, true, false, not, ◌&&◌, ◌||◌, List, [], ◌++◌, length, take, drop, replicate, ◌==◌, nat_le, nat_lt}
 use Rattle.std.proofs.Math.Seq.{paste}
 use Rattle.rules.specs.Choice.{◌if◌else◌}
 use Rattle.rules.specs.Flags.{there}

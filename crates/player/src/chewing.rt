@@ -2,7 +2,7 @@
 ghost use Rattle.std.specs.Prelude.{◌≡◌, ◌≤◌, length};
 ghost use Rattle.xdr.specs.Over.{over, Put};
 ghost use Rattle.server.specs.Host.{fresh_server};
-ghost use Rattle.capture.specs.Text.{bad_header, cut_record};
+ghost use Rattle.capture.specs.Text.{bad_header, cut_record, LINE};
 ghost use Rattle.player.specs.Replay.{twelve};
 ghost use Rattle.player.specs.Walking.{begun, chewed, ending, played_of};
 
@@ -100,7 +100,11 @@ pub fn chew(p: Play, portion: &[u8], out: &mut [u8]) -> Play
 }
 
 // The file has no more bytes: the line that ends the walk, if one does, at the front of the output. Answers how many bytes it has.
-pub fn finish(w: Walk, out: &mut [u8]) -> usize {
+pub fn finish(w: Walk, out: &mut [u8]) -> usize
+    requires { LINE ≤ length out.old }
+    ensures long { result ≡ length (ending w).text }
+    ensures bytes { out.new ≡ over (ending w).text out.old }
+{
     if w.phase == 0 || 3 <= w.phase {
         return put_text(out, b"bad header\n");
     }
@@ -110,7 +114,12 @@ pub fn finish(w: Walk, out: &mut [u8]) -> usize {
     put_text(out, b"cut record\n")
 }
 
-fn put_text(out: &mut [u8], text: &[u8]) -> usize {
+// The text is written at the front of the output. Answers how many bytes it has.
+fn put_text(out: &mut [u8], text: &[u8]) -> usize
+    requires { length text.now ≤ length out.old }
+    ensures long { result ≡ length text.now }
+    ensures bytes { out.new ≡ over text.now out.old }
+{
     let mut i = 0;
     while i < text.len() {
         out[i] = text[i];

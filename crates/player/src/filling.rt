@@ -73,6 +73,7 @@ fn filled(w: Walk, xs: &[u8]) -> Walk
     requires { w.have ≤ WINDOW }
     ensures { result ≡ filled w xs.now }
 {
+    let left = w.left;
     let k = takes(w, xs);
     let at = w.have;
     let n = smaller(k, WINDOW - at);
@@ -83,7 +84,7 @@ fn filled(w: Walk, xs: &[u8]) -> Walk
         little: w.little,
         number: w.number,
         seconds: w.seconds,
-        left: w.left - k as u32,
+        left: left - k as u32,
         have: at + n,
         kept,
     }

@@ -1,5 +1,6 @@
 // A captured day, played to twelve fresh servers from portions of the file as they come.
 #![tactic(auto)]
+
 use capture::Told;
 use server::Server;
 

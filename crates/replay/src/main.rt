@@ -1,34 +1,30 @@
 // Plays a captured day again: replay [CAPTURE], standard input where no name is given. A line for each record goes to standard output.
-// The exit status goes to descriptor 3, where the script `replay` takes it: a program of this kit can't give one itself.
+// The exit status is 0 where the walk came to the end of the file, 1 where it did not, and 2 for a file that can't be read.
 #![tactic(auto)]
-use player::Play;
+
 use player::chewing::{chew, finish, first};
+use std::fs::File;
+use std::io::{Eprint, Print, Read};
+use std::process::ExitCode;
+use std::rt::Files;
+use std::{env, io};
 
 // Says why, and answers the status of a file that can't be read or a line that can't be written.
-fn failed(what: &[u8]) -> u32 {
-    io::write_all(2, b"replay: ");
-    os::fail(what);
+fn failed(rt: &impl Eprint, what: &str, why: &io::Error) -> u8 {
+    let _ = eprintln!(rt; "replay: {what}: {why}");
     2
 }
 
-// The lines at the front of the output are written.
-fn written(out: &[u8]) -> bool {
-    io::write_all(1, out)
-}
-
 // Plays the open file to its end.
-fn play(fd: i32) -> u32 {
+fn play(rt: &(impl Print + Eprint), file: &mut impl Read) -> u8 {
     let mut input = [0u8; 65536];
     let mut output = [0u8; 65536];
     let mut p = first();
-    let mut turns = u64::MAX;
-    while turns > 0 {
-        turns -= 1;
-        let got = libc::read(fd, &mut input);
-        if got < 0 {
-            return failed(b"read");
-        }
-        let n = io::count(got, &input);
+    for _ in 0..u64::MAX {
+        let n = match file.read(&mut input) {
+            Ok(n) => n,
+            Err(why) => return failed(rt, "read", &why),
+        };
         if n == 0 {
             break;
         }
@@ -36,8 +32,8 @@ fn play(fd: i32) -> u32 {
         while at < n {
             p = chew(p, &input[at..n], &mut output);
             let made = p.made;
-            if !written(&output[..made]) {
-                return failed(b"write");
+            if let Err(why) = rt.write_all(&output[..made]) {
+                return failed(rt, "write", &why);
             }
             let taken = p.taken;
             if taken == 0 {
@@ -48,34 +44,34 @@ fn play(fd: i32) -> u32 {
     }
     let w = p.walk;
     let made = finish(w, &mut output);
-    if !written(&output[..made]) {
-        return failed(b"write");
+    if let Err(why) = rt.write_all(&output[..made]) {
+        return failed(rt, "write", &why);
     }
     if made == 0 { 0 } else { 1 }
 }
 
-fn opened() -> u32 {
-    let mut name = io::buffer();
-    let n = os::arg(1, &mut name);
-    if os::errno() != 0 {
-        return failed(b"name");
+fn opened(rt: &(impl Files + Print + Eprint), name: &str) -> u8 {
+    match File::open(rt, name) {
+        Ok(mut file) => play(rt, &mut file),
+        Err(why) => failed(rt, name, &why),
     }
-    let fd = os::open_read(&name[..n]);
-    if fd < 0 {
-        return failed(&name[..n]);
-    }
-    play(fd)
 }
 
-fn main() {
-    let many = os::arg_count();
-    let mut status = 2;
-    if many < 2 {
-        status = play(0);
-    } else if many == 2 {
-        status = opened();
-    } else {
-        io::write_all(2, b"usage: replay [CAPTURE]\n");
-    }
-    io::print_decimal(3, status as u64);
+fn main(rt: HostRuntime) -> ExitCode {
+    let mut names = match env::args(&rt) {
+        Ok(words) => words.skip(1),
+        Err(why) => return ExitCode::from(failed(&rt, "name", &why)),
+    };
+    let status = match names.next() {
+        None => play(&rt, &mut rt.stdin()),
+        Some(name) => {
+            if names.next().is_some() {
+                let _ = eprintln!(&rt; "usage: replay [CAPTURE]");
+                2
+            } else {
+                opened(&rt, name.as_str())
+            }
+        }
+    };
+    ExitCode::from(status)
 }

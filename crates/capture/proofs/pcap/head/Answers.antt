@@ -1,6 +1,5 @@
 -- The seconds and the captured length are the first and the third word. Assumes nothing.
 use Rattle.capture.specs.Pcap.{head}
-use borrow.Author.Rules.{rules}
 use Rattle.capture.proofs.pcap.head.Goals as goal
 
 pub returns : goal.returns

@@ -4,7 +4,6 @@ use mathlib.Core.Bool.{true, false}
 use lib.ListN.{length}
 use borrow.Author.Tests.{lt-ltb, le-ltb, eq-eqb, ne_eqb}
 use Rattle.capture.specs.Pcap.{header, word, HEADER, MAGIC}
-use borrow.Author.Rules.{rules}
 use Rattle.capture.proofs.pcap.header.Goals as goal
 
 pub returns-then-s-lt-HEADER : goal.returns-then-s-lt-HEADER

@@ -6,7 +6,6 @@ use native.Mathlib.Numerals.{add-one}
 use lib.ListN.{length}
 use lib.Seq.{set_split, drop-drop}
 use Rattle.xdr.specs.Over.{over}
-use borrow.Author.Rules.{rules}
 use Rattle.capture.proofs.text.put_byte.Goals as goal
 
 pub returns : goal.returns

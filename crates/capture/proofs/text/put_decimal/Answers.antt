@@ -1,6 +1,5 @@
 -- A decimal is a number of at most 20 digits. Assumes nothing.
 use Rattle.capture.specs.Text.{decimal}
-use borrow.Author.Rules.{rules}
 use Rattle.capture.proofs.text.put_decimal.Goals as goal
 
 pub returns : goal.returns

@@ -1,41 +1,9 @@
 -- The ten parts of a line are written in a row. Assumes nothing.
-use mathlib.Core.Path.{◌≡◌}
-use Prim.Native.Nat.{◌+◌, ◌≤◌}
 use native.Mathlib.Omega.{arith}
-use lib.ListN.{length}
 use Rattle.capture.specs.Text.{decimal}
 use Rattle.capture.proofs.Lengths.{decimal_short, maybe_short, shown_short}
 use Rattle.capture.proofs.InARow.{Row, next, line_in_a_row}
-use borrow.Author.Rules.{rules}
-use Rattle.capture.proofs.text.put_line.Reads as reads
-use Rattle.capture.proofs.text.put_line.Lts as lts
-use Rattle.capture.proofs.text.put_byte.Reads as put-byte-reads
-use Rattle.capture.proofs.text.put_decimal.Reads as put-decimal-reads
-use Rattle.capture.proofs.text.put_maybe.Reads as put-maybe-reads
-use Rattle.capture.proofs.text.put_shown.Reads as put-shown-reads
 use Rattle.capture.proofs.text.put_line.Goals as goal
-
--- the place after the sixth part
-abbrev Six : Type 0
-Six = lts.After-put-byte3 (
-  put-decimal-reads.Asked,
-  put-decimal-reads.Learnt,
-  put-byte-reads.Asked,
-  put-byte-reads.Learnt,
-  put-maybe-reads.Asked,
-  put-maybe-reads.Learnt,
-  put-shown-reads.Asked,
-  put-shown-reads.Learnt,
-) reads.Pre reads.Post
-
-record Left (d : Six) : Type 0 where
-  room : d.put-byte3.result + 65 ≤ length d.put-byte3.last.0
-  same : length d.put-byte3.last.0 ≡ length d.before.before.before.before.before.before.before.before.before.before.before.before.before.before.before.before.before.before.before.before.before.before.before.args.out.now
-
-after-six : (d : Six) → Left d
-after-six d =
-    let a = d.before.before.before.before.before.before.before.before.before.before.before.before.before.before.before.before.before.before.before.before.before.before.before.args in
-    record { room = omega (arith, decimal_short a.number, decimal_short a.seconds, maybe_short a.o.read a.o.code); same = omega arith }
 
 pub put_byte-b-requires : goal.put_byte-b-requires
 put_byte-b-requires c =
@@ -74,16 +42,13 @@ put_byte-h-requires c =
 
 pub put_shown-i-requires : goal.put_shown-i-requires
 put_shown-i-requires c =
-    let o = c.args.o in
-    omega (arith, after-six c.before.before.before.before.before.before.before.before.before.before.before, maybe_short o.read o.t)
+    let a = c.args in
+    omega (arith, decimal_short a.number, decimal_short a.seconds, maybe_short a.o.read a.o.code, maybe_short a.o.read a.o.t)
 
 pub put_byte-requires : goal.put_byte-requires
 put_byte-requires c =
-    let o = c.args.o in
-    omega (arith, after-six c.before.before.before.before.before.before.before.before.before.before.before.before.before.before.before, maybe_short o.read o.t, shown_short o.answer)
-
-pub shape_of-out : goal.shape_of-out
-shape_of-out c = omega (arith, (after-six c.before.before.before.before.before.before.before.before.before.before.before.before.before.before.before.before.before.before).same)
+    let a = c.args in
+    omega (arith, decimal_short a.number, decimal_short a.seconds, maybe_short a.o.read a.o.code, maybe_short a.o.read a.o.t, shown_short a.o.answer)
 
 pub returns : goal.returns
 returns c =

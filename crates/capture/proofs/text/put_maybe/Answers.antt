@@ -1,6 +1,5 @@
 -- The flag decides between the decimal and the dash. Assumes nothing.
 use Rattle.capture.specs.Text.{maybe}
-use borrow.Author.Rules.{rules}
 use Rattle.capture.proofs.text.put_maybe.Goals as goal
 
 pub returns-then-some : goal.returns-then-some

@@ -2,20 +2,19 @@
 use native.Mathlib.Omega.{arith}
 use Rattle.xdr.specs.Over.{put-put}
 use Rattle.capture.specs.Text.{shown}
-use borrow.Author.Rules.{rules}
 use Rattle.capture.proofs.text.put_shown.Goals as goal
 
 pub returns-in-Dash : goal.returns-in-Dash
 unfolding shown
-returns-in-Dash c = rw c.enum_told-1.given.1 c.put_byte.ensures
+returns-in-Dash c = rw c.in-Dash.is c.put_byte.ensures
 
 pub returns-in-Code : goal.returns-in-Code
 unfolding shown
-returns-in-Code c = rw c.answer-1.given.1 c.put_decimal.ensures
+returns-in-Code c = rw c.in-Code.is c.put_decimal.ensures
 
 pub returns-in-Refusal : goal.returns-in-Refusal
 unfolding shown
 returns-in-Refusal c =
     let z = c.args.out.now in
     let two = put-put _ _ _ z (omega arith) c.put_byte-a.ensures c.put_byte-b.ensures in
-    rw c.answer-in-Refusal-1.given.1 (put-put _ _ _ z (omega arith) two c.put_decimal-in-Refusal.ensures)
+    rw c.in-Refusal.is (put-put _ _ _ z (omega arith) two c.put_decimal-in-Refusal.ensures)

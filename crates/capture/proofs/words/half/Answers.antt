@@ -2,7 +2,6 @@
 use native.Mathlib.Omega.{arith}
 use Rattle.xdr.specs.Word.{value}
 use Rattle.capture.specs.Pcap.{half}
-use borrow.Author.Rules.{rules}
 use Rattle.capture.proofs.words.half.Goals as goal
 
 pub returns-then-little : goal.returns-then-little
