@@ -1,3 +1,4 @@
+pub mod Capture
 pub mod Codec
 pub mod Counters
 pub mod Door
@@ -13,6 +14,7 @@ pub mod Graph
 pub mod Masks
 pub mod Messages
 pub mod Parts
+pub mod Player
 pub mod Rules
 pub mod ServerChange
 pub mod ServerForm
