@@ -23,7 +23,7 @@ pub fn word(v: Set, k: u32) -> u64
 pub fn same_set(a: Set, b: Set) -> bool
     ensures { result ≡ same_set a b }
 {
-    (a.w0 == b.w0) & (a.w1 == b.w1) & (a.w2 == b.w2) & (a.w3 == b.w3)
+    a == b
 }
 
 // What is in a or in b, shard by shard.
