@@ -9,6 +9,7 @@ pub mod PiecesKept
 pub mod TouchedWord
 pub mod SetLaws
 pub mod InTurn
+pub mod KindIs
 pub mod RuleOne
 pub mod RuleNine
 pub mod RuleTwo

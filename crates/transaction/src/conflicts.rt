@@ -3,8 +3,9 @@ ghost use Rattle.std.specs.Prelude.{◌≡◌};
 ghost use Rattle.rules.specs.Keys.{keys_on, clashes};
 ghost use Rattle.rules.specs.Conflict.{conflict};
 
-use crate::{READ, put_below, used};
+use crate::{put_below, used};
 use rules::cluster::KEYS;
+use rules::kinds::Kind;
 use rules::{Keys, Pieces};
 
 // The keys of a transaction at shard `k`.
@@ -14,13 +15,11 @@ pub fn keys_on(ps: Pieces, k: u32) -> Keys
     let n = used(ps.count);
     let mut all: u64 = 0;
     let mut written: u64 = 0;
-    let mut i: usize = 0;
-    while i < n {
+    for i in 0..n {
         let p = ps.list[i];
         let here = p.shard == k;
         all = put_below(all, KEYS, p.key, here);
-        written = put_below(written, KEYS, p.key, here & (p.kind != READ));
-        i += 1;
+        written = put_below(written, KEYS, p.key, here & Kind::of(p.kind).writes());
     }
     Keys {
         all: all,

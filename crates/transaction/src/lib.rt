@@ -7,16 +7,10 @@ ghost use Rattle.rules.specs.Cluster.{NUMBERS, PIECES};
 ghost use Rattle.rules.specs.Pieces.{place, piece_kept, pieces_kept, too_many, any_pieces, used, on_shard, touches, shards_of, touched_by, pieces_on, same_piece, same_pieces};
 
 use rules::cluster::{KEYS, KINDS, PIECES, SHARDS};
+use rules::kinds::Kind;
 use rules::{Piece, Pieces};
 
 pub mod conflicts; // conflicts.rt: which transactions conflict at a shard
-
-// The kinds of a piece.
-pub const READ: u32 = 0;
-
-pub const PUT: u32 = 1;
-
-pub const ADD: u32 = 2;
 
 // Where a piece stands in the order of pieces.
 pub fn place(p: Piece) -> u64
@@ -29,7 +23,10 @@ pub fn place(p: Piece) -> u64
 pub fn piece_kept(p: Piece) -> bool
     ensures { result ≡ piece_kept p }
 {
-    (p.shard < SHARDS) & (p.key < KEYS) & (p.kind < KINDS) & ((p.kind != READ) | (p.operand == 0))
+    (p.shard < SHARDS)
+        & (p.key < KEYS)
+        & (p.kind < KINDS)
+        & (Kind::of(p.kind).writes() | (p.operand == 0))
 }
 
 // The shards that pieces touch, as a word; 0 where they break rule 2. Whoever keeps it touches a shard.
@@ -44,15 +41,13 @@ pub fn touched(ps: Pieces) -> u64
     let mut kept = true;
     let mut last: u64 = 0;
     let mut word: u64 = 0;
-    let mut i: usize = 0;
-    while i < n {
+    for i in 0..n {
         let p = ps.list[i];
         let at = place(p);
         let entry = piece_kept(p) & ((i == 0) | (last < at));
         kept = kept & entry;
         word = put_below(word, SHARDS, p.shard, true);
         last = at;
-        i += 1;
     }
     if kept { word } else { 0 }
 }
@@ -91,10 +86,8 @@ pub fn touches(ps: Pieces, k: u32) -> bool
     ensures { result ≡ touches ps k }
 {
     let mut hit = false;
-    let mut i: usize = 0;
-    while i < PIECES {
+    for i in 0..PIECES {
         hit = hit | on_shard(ps, k, i);
-        i += 1;
     }
     hit
 }
@@ -111,8 +104,7 @@ fn counted(many: u32, b: bool) -> u32
 pub fn used(count: u32) -> usize
     ensures { result ≡ used count }
 {
-    let many = count as usize;
-    if many < PIECES { many } else { PIECES }
+    PIECES.min(count as usize)
 }
 
 // How many pieces the transaction has on shard `k`.
@@ -121,11 +113,9 @@ pub fn pieces_on(ps: Pieces, k: u32) -> u32
 {
     let n = used(ps.count);
     let mut many: u32 = 0;
-    let mut i: usize = 0;
-    while i < n {
+    for i in 0..n {
         let p = ps.list[i];
         many = counted(many, p.shard == k);
-        i += 1;
     }
     many
 }
@@ -149,11 +139,9 @@ pub fn shards_of(ps: Pieces) -> u64
 {
     let n = ps.count as usize;
     let mut touched: u64 = 0;
-    let mut i: usize = 0;
-    while i < PIECES {
+    for i in 0..PIECES {
         let p = ps.list[i];
         touched = put_below(touched, SHARDS, p.shard, i < n);
-        i += 1;
     }
     touched
 }
@@ -161,7 +149,7 @@ pub fn shards_of(ps: Pieces) -> u64
 pub fn same_piece(p: Piece, q: Piece) -> bool
     ensures { result ≡ same_piece p q }
 {
-    (p.shard == q.shard) & (p.key == q.key) & (p.kind == q.kind) & (p.operand == q.operand)
+    p == q
 }
 
 // The same pieces, up to their counts.
@@ -174,12 +162,10 @@ pub fn same_pieces(a: Pieces, b: Pieces) -> bool
     }
     let n = a.count as usize;
     let mut same = true;
-    let mut i: usize = 0;
-    while i < PIECES {
+    for i in 0..PIECES {
         let p = a.list[i];
         let q = b.list[i];
         same = same & ((n <= i) | same_piece(p, q));
-        i += 1;
     }
     same
 }

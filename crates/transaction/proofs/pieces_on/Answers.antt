@@ -18,7 +18,7 @@ pub loop-i-init : goal.loop-i-init
 loop-i-init c =
     let n = c.args.ps.count in
     let e = c.used-n.ensures in
-    (omega arith, rw e (used_le n), rw e (used-counted n), e, omega arith, count_none _)
+    (rw e (used_le n), rw e (used-counted n), e, omega arith, count_none _)
 
 pub loop-i-preserved : goal.loop-i-preserved
 loop-i-preserved c =
@@ -26,10 +26,10 @@ loop-i-preserved c =
     let start = c.args in
     let e = c.counted-many.ensures in
     let here = eqb (piece_at start.ps turn.i).shard start.k in
-    (search rules, search rules, search rules, search rules, rw e (at_most here turn.many turn.i turn.invariant.4), rw (count-step, on_counted start.ps start.k turn.i (omega arith), ← turn.invariant.5) e)
+    (search rules, search rules, search rules, rw e (at_most here turn.many turn.i turn.invariant.3), rw (count-step, on_counted start.ps start.k turn.i (omega arith), ← turn.invariant.4) e)
 
 pub returns : goal.returns
 returns c =
     let last = c.loop-i in
     let e : last.i ≡ c.used-n.result = omega arith in
-    rw (last.invariant.5, e, last.invariant.3) (count-used _ _)
+    rw (last.invariant.4, e, last.invariant.2) (count-used _ _)

@@ -1,12 +1,8 @@
 -- `transaction::same_pieces` meets its contract: the pieces passed are the same. Assumes nothing.
-use Prim.Native.Nat.{◌-◌, ◌≤◌}
 use mathlib.Core.Path.{◌≡◌}
 use Rattle.masks.specs.Folds.{all_below}
 use Rattle.rules.specs.Pieces.{same_entry}
 use Rattle.transaction.proofs.same_pieces.Given as goal
 
 abbrev pub invariant-loop-i : goal.invariant-loop-i
-invariant-loop-i l = (l.i ≤ 8) × (l.same ≡ all_below (same_entry l.a l.b) l.i)
-
-abbrev pub decreases-loop-i : goal.decreases-loop-i
-decreases-loop-i l = 8 - l.i
+invariant-loop-i l = (l.same ≡ all_below (same_entry l.a l.b) l.i)

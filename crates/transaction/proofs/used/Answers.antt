@@ -1,13 +1,16 @@
 -- `transaction::used` meets its contract. Assumes nothing.
-use borrow.Author.Tests.{lt-ltb, le-ltb}
+use mathlib.Core.Path.{◌≡◌, ◌∙◌}
+use Prim.Native.Nat.{ℕ, ◌<◌, min}
+use native.Mathlib.Decide.{dec_lt}
 use native.Mathlib.Omega.{arith}
+use borrow.Author.Tests.{lt-ltb, le-ltb}
 use Rattle.rules.specs.Pieces.{used}
 use Rattle.transaction.proofs.used.Goals as goal
 
-pub returns-then-many-lt-PIECES : goal.returns-then-many-lt-PIECES
+min-used : (n : ℕ) → Dec (n < 8) → min 8 n ≡ used n
 unfolding used
-returns-then-many-lt-PIECES c = rw (lt-ltb _ 8 c.if-many-lt-PIECES.true)
+min-used n (yes p) = rw (lt-ltb n 8 p) (omega arith)
+min-used n (no g) = rw (le-ltb n 8 (omega (arith, g))) (omega (arith, g))
 
-pub returns-else-many-lt-PIECES : goal.returns-else-many-lt-PIECES
-unfolding used
-returns-else-many-lt-PIECES c = let n = c.args.count in rw (le-ltb n 8 (omega arith))
+pub returns : goal.returns
+returns c = c.min.ensures ∙ min-used c.args.count (dec_lt c.args.count 8)
