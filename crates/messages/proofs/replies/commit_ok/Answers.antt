@@ -1,5 +1,0 @@
--- `replies::commit_ok` meets its contract. Assumes nothing.
-use Rattle.messages.proofs.replies.commit_ok.Goals as goal
-
-pub returns : goal.returns
-returns c = rw c.plain-r.ensures
