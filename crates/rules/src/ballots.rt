@@ -26,6 +26,7 @@ pub fn recovers_with(c: u32, b: u32) -> bool
 }
 
 // Coordinator `c` may use `b` for the number `t`.
+#[tactic(auto, unfolding(crate::specs::Ballots::may_use))]
 pub fn may_use(c: u32, t: u32, b: u32) -> bool
     ensures { result ≡ may_use c t b }
 {
@@ -36,6 +37,7 @@ pub fn may_use(c: u32, t: u32, b: u32) -> bool
 }
 
 // The smallest number above `n` that `c` could recover with, in 64 bits, where it always fits.
+#[tactic(auto, unfolding(crate::specs::Ballots::next_above))]
 pub fn next_above(c: u32, n: u32) -> u64
     ensures { result ≡ next_above c n }
 {
@@ -50,6 +52,7 @@ pub fn next_above(c: u32, n: u32) -> u64
 }
 
 // It is no ballot any more.
+#[tactic(auto, unfolding(crate::specs::Ballots::no_next))]
 pub fn no_next(c: u32, n: u32) -> bool
     ensures { result ≡ no_next c n }
 {

@@ -5,21 +5,19 @@ ghost use Rattle.rules.specs.Sets.{word, members, union_set, same_set, bad_word,
 use crate::Set;
 
 // The word of shard `k`; of a `k` above 3 it is the last.
+#[tactic(auto, unfolding(crate::specs::Sets::word))]
 pub fn word(v: Set, k: u32) -> u64
     ensures { result ≡ word v k }
 {
-    if k == 0 {
-        return v.w0;
+    match k {
+        0 => v.w0,
+        1 => v.w1,
+        2 => v.w2,
+        _ => v.w3,
     }
-    if k == 1 {
-        return v.w1;
-    }
-    if k == 2 {
-        return v.w2;
-    }
-    v.w3
 }
 
+#[tactic(auto, unfolding(crate::specs::Sets::same_set))]
 pub fn same_set(a: Set, b: Set) -> bool
     ensures { result ≡ same_set a b }
 {
@@ -27,6 +25,7 @@ pub fn same_set(a: Set, b: Set) -> bool
 }
 
 // What is in a or in b, shard by shard.
+#[tactic(auto, unfolding(crate::specs::Sets::union_set))]
 pub fn union_set(a: Set, b: Set) -> Set
     ensures { result ≡ union_set a b }
 {
@@ -39,6 +38,7 @@ pub fn union_set(a: Set, b: Set) -> Set
 }
 
 // All numbers of a set.
+#[tactic(auto, unfolding(crate::specs::Sets::members, masks::specs::Folds::union_of, crate::specs::Sets::word, masks::specs::Bits::union))]
 pub fn members(v: Set) -> u64
     ensures { result ≡ members v }
 {
@@ -46,6 +46,7 @@ pub fn members(v: Set) -> u64
 }
 
 // The word `w`, at shard `k`, of the number `t` that touches the shards in `touched` breaks rule 3.
+#[tactic(auto, unfolding(crate::specs::Sets::bad_word))]
 pub fn bad_word(t: u32, touched: u64, k: u32, w: u64) -> bool
     ensures { result ≡ bad_word t touched k w }
 {
@@ -53,6 +54,7 @@ pub fn bad_word(t: u32, touched: u64, k: u32, w: u64) -> bool
 }
 
 // A set of the number `t` breaks rule 3.
+#[tactic(auto, unfolding(crate::specs::Sets::bad_set, crate::specs::Sets::bad_word_at, crate::specs::Sets::word, masks::specs::Folds::any_below))]
 pub fn bad_set(t: u32, touched: u64, v: Set) -> bool
     ensures { result ≡ bad_set t touched v }
 {

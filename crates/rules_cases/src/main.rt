@@ -1,13 +1,13 @@
 // Case G and examples of the piece rules, of conflicts and of rule 3, each computed by the library: a line each.
 #![tactic(auto)]
 
-use rules::{Piece, Pieces};
+use rules::{Ballot, NextBallot, Piece, Pieces};
 use std::io;
 use std::io::Print;
 
 // `next c n:`, then the refusal and the ballot.
 fn next(rt: &impl Print, c: u32, n: u32) -> io::Result<()> {
-    let b = rules::Ballot::next(c, n);
+    let b = NextBallot::from(Ballot::next(c, n));
     println!(rt; "next {c} {n}: {} {}", b.refusal, b.ballot)
 }
 

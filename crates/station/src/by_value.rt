@@ -13,7 +13,7 @@ use wire::{Decoded, Message};
 pub fn drobulets_next_ballot(c: u32, n: u32) -> NextBallot
     ensures { result ≡ next_ballot c n }
 {
-    Ballot::next(c, n)
+    NextBallot::from(Ballot::next(c, n))
 }
 
 // The message that the bytes say, or the number of the first fault and the blank message.
