@@ -13,6 +13,7 @@ use transaction::{pieces_kept, too_many};
 use wire::Message;
 
 // 12: a count above 8.
+#[tactic(auto, unfolding(wire::specs::Faults::over_count))]
 pub fn over_count(m: Message) -> bool
     ensures { result ≡ over_count m }
 {
@@ -21,6 +22,7 @@ pub fn over_count(m: Message) -> bool
 }
 
 // 1: a number, server, ballot or promise out of its range, or a Prepare at ballot 0.
+#[tactic(auto, unfolding(wire::specs::Faults::bad_numbers))]
 pub fn bad_numbers(m: Message) -> bool
     ensures { result ≡ bad_numbers m }
 {
@@ -34,6 +36,7 @@ pub fn bad_numbers(m: Message) -> bool
 }
 
 // 2: pieces that break their rule.
+#[tactic(auto, unfolding(wire::specs::Faults::bad_pieces))]
 pub fn bad_pieces(m: Message) -> bool
     ensures { result ≡ bad_pieces m }
 {
@@ -55,6 +58,7 @@ fn bad_where(there: bool, t: u32, touched: u64, v: Set) -> bool
 }
 
 // 3: a set or an arrival word that breaks its rule, where the number touches the shards in `touched`.
+#[tactic(auto, unfolding(wire::specs::Faults::bad_sets))]
 pub fn bad_sets(touched: u64, m: Message) -> bool
     ensures { result ≡ bad_sets touched m }
 {

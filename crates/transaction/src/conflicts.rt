@@ -28,6 +28,7 @@ pub fn keys_on(ps: Pieces, k: u32) -> Keys
 }
 
 // One has a key that the other writes.
+#[tactic(auto, unfolding(rules::specs::Keys::clashes))]
 pub fn clashes(a: Keys, b: Keys) -> bool
     ensures { result ≡ clashes a b }
 {

@@ -73,6 +73,7 @@ pub fn any_pieces(ps: Pieces) -> bool
 }
 
 // Piece `i` is there, and on shard `k`.
+#[tactic(auto, unfolding(rules::specs::Pieces::on_shard))]
 pub fn on_shard(ps: Pieces, k: u32, i: usize) -> bool
     requires { i < PIECES }
     ensures { result ≡ on_shard ps k i }
@@ -101,6 +102,7 @@ fn counted(many: u32, b: bool) -> u32
 }
 
 // How many of the places of pieces are in use.
+#[tactic(auto, unfolding(rules::specs::Pieces::used))]
 pub fn used(count: u32) -> usize
     ensures { result ≡ used count }
 {
@@ -146,6 +148,7 @@ pub fn shards_of(ps: Pieces) -> u64
     touched
 }
 
+#[tactic(auto, unfolding(rules::specs::Pieces::same_int, rules::specs::Pieces::same_piece))]
 pub fn same_piece(p: Piece, q: Piece) -> bool
     ensures { result ≡ same_piece p q }
 {
