@@ -1,12 +1,13 @@
 // The cases of ballots, counters, bytes and a drive: G, H, K and L.
 use crate::exchange::{heard, same};
-use crate::feed::{no_set, put5, same_set, words};
-use crate::host;
+use crate::feed::{put5, words};
 use counters::{Counter, Outcome};
 use drive::Drive;
 use messages::asks::inquire;
 use messages::replies::pre_accept_ok;
-use station::by_value::{drobulets_decode, drobulets_next_ballot};
+use rules::Set;
+use station::by_value::{drobulets_decode, drobulets_encode, drobulets_next_ballot};
+use station::drives::drobulets_drive_start;
 
 // The next ballot of c above n is this one, or is refused.
 fn next_is(c: u32, n: u32, refusal: u32, ballot: u32) -> bool {
@@ -50,18 +51,14 @@ pub fn case_h() -> bool {
 pub fn case_k() -> bool {
     let bytes = [0u8, 0, 0, 4, 0, 0, 0, 9];
     let mut out = [255u8; 9];
-    let wrote = host::encode(inquire(9), &mut out);
-    let front = (out[0] == 0) & (out[1] == 0) & (out[2] == 0) & (out[3] == 4);
-    let behind = (out[4] == 0) & (out[5] == 0) & (out[6] == 0) & (out[7] == 9);
+    let wrote = drobulets_encode(&inquire(9), &mut out);
     let back = drobulets_decode(&bytes);
     let cut = drobulets_decode(&bytes[..7]);
     let more = drobulets_decode(&[0u8, 0, 0, 4, 0, 0, 0, 9, 0]);
     let six = drobulets_decode(&[0u8, 0, 0, 6, 0, 0, 0, 9]);
     (wrote.refusal == 0)
         & (wrote.length == 8)
-        & front
-        & behind
-        & (out[8] == 255)
+        & (out == [0, 0, 0, 4, 0, 0, 0, 9, 255])
         & (back.refusal == 0)
         & same(back.message, inquire(9))
         & (cut.refusal == 10)
@@ -71,9 +68,9 @@ pub fn case_k() -> bool {
 
 // The drive of T8 after three arrival words.
 fn of_words(a: u64, b: u64, c: u64) -> Drive {
-    let any = drive_host::began(0, 0, 0, 0, put5(), 0);
-    let started = host::start(any, 0, 8, put5());
-    let first = heard(started.drive, pre_accept_ok(8, 0, 0, a));
+    let mut drive = drive_host::began(0, 0, 0, 0, put5(), 0);
+    let _refusal = drobulets_drive_start(&mut drive, 0, 8, put5());
+    let first = heard(drive, pre_accept_ok(8, 0, 0, a));
     let second = heard(first, pre_accept_ok(8, 1, 0, b));
     heard(second, pre_accept_ok(8, 2, 0, c))
 }
@@ -82,7 +79,7 @@ pub fn case_l() -> bool {
     let slow = of_words(0, 0, 2);
     let fast = of_words(0, 0, 0);
     (slow.phase == 2)
-        & same_set(slow.chosen.set, words(2, 0))
+        & (slow.chosen.set == words(2, 0))
         & (fast.phase == 3)
-        & same_set(fast.chosen.set, no_set())
+        & (fast.chosen.set == Set::default())
 }

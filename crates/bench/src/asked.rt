@@ -1,9 +1,9 @@
 // The cases of a server that is asked: A, B, C, I and J.
 use crate::exchange::{after, answers, refuses, server0};
-use crate::feed::{add2, no_set, one, piece, put5, words};
+use crate::feed::{add2, one, piece, put5, words};
 use messages::asks::{accept, commit, pre_accept, prepare};
 use messages::replies::{accept_ok, behind, pre_accept_ok, prepare_ok};
-use rules::{MaybeVote, MaybeWord};
+use rules::{MaybeVote, MaybeWord, Set};
 use server::Server;
 
 // Server 0 after the three messages of A.
@@ -34,11 +34,7 @@ pub fn case_a() -> bool {
 
 pub fn case_b() -> bool {
     let s = after_a();
-    let none = MaybeVote {
-        some: 0,
-        ballot: 0,
-        set: no_set(),
-    };
+    let none = MaybeVote::default();
     let arrived = answers(s, prepare(8, 8, put5()), prepare_ok(8, 0, 8, word(0), none));
     let t = after(s, prepare(8, 8, put5()));
     arrived & answers(t, pre_accept(8, 0, put5()), behind(8, 0, 0, 8))
@@ -46,14 +42,14 @@ pub fn case_b() -> bool {
 
 pub fn case_c() -> bool {
     let s = after_b();
-    let taken = answers(s, accept(8, 8, put5(), no_set()), accept_ok(8, 0, 8));
-    let t = after(s, accept(8, 8, put5(), no_set()));
+    let taken = answers(s, accept(8, 8, put5(), Set::default()), accept_ok(8, 0, 8));
+    let t = after(s, accept(8, 8, put5(), Set::default()));
     let again = answers(t, pre_accept(8, 8, put5()), pre_accept_ok(8, 0, 8, 0));
     let u = after(t, pre_accept(8, 8, put5()));
     let vote = MaybeVote {
         some: 1,
         ballot: 8,
-        set: no_set(),
+        set: Set::default(),
     };
     taken & again & answers(u, prepare(8, 8, put5()), prepare_ok(8, 0, 8, word(0), vote))
 }
@@ -67,5 +63,5 @@ pub fn case_i() -> bool {
 pub fn case_j() -> bool {
     let s = server0();
     let own = commit(63, put5(), words(9223372036854775808, 0));
-    refuses(s, own, 3) & refuses(s, commit(64, put5(), no_set()), 1)
+    refuses(s, own, 3) & refuses(s, commit(64, put5(), Set::default()), 1)
 }

@@ -3,7 +3,6 @@
 #![tactic(auto)]
 
 mod feed; // feed.rt: pieces and sets to feed
-pub mod host; // host.rt: what hosts call, on a state that stands in a local
 mod exchange; // exchange.rt: messages told as bytes, and what an answer is held against
 mod asked; // asked.rt: A, B, C, I and J, a server that is asked
 mod ran; // ran.rt: D, E and F, a server that runs

@@ -1,11 +1,13 @@
 // The cases of a server that runs: D, E and F, in which a Commit runs what is ready.
 use crate::exchange::{after, answers, server0};
-use crate::feed::{add2, no_set, piece, same_set, two, words};
-use crate::host;
+use crate::feed::{add2, piece, two, words};
 use messages::asks::commit;
 use messages::replies::commit_ok;
-use rules::Pieces;
+use rules::{Pieces, Set};
 use server::Server;
+use station::servers::{
+    drobulets_server_counter, drobulets_server_log, drobulets_server_run, drobulets_server_wanted,
+};
 
 // T8 of D: put 5 into a counter of shard 0 and one of shard 1.
 fn put55() -> Pieces {
@@ -24,19 +26,20 @@ fn eight() -> Server {
 
 // The log has this number at this place.
 fn logged(s: Server, place: u32, number: u32) -> bool {
-    let e = host::log(s, place);
+    let e = drobulets_server_log(&s, place);
     (e.some == 1) & (e.number == number)
 }
 
 // The log ends before this place.
 fn unlogged(s: Server, place: u32) -> bool {
-    let e = host::log(s, place);
+    let e = drobulets_server_log(&s, place);
     e.some == 0
 }
 
 // Nothing is left to run.
 fn rests(s: Server) -> bool {
-    let r = host::run(s);
+    let mut server = s;
+    let r = drobulets_server_run(&mut server);
     (r.refusal == 0) & (r.many == 0)
 }
 
@@ -50,7 +53,7 @@ pub fn case_d() -> bool {
     let s = eight();
     let both = answers(s, commit(1, add22(), words(256, 0)), commit_ok(1, 0, 2));
     let n = after(s, commit(1, add22(), words(256, 0)));
-    let third = host::counter(n, 3);
+    let third = drobulets_server_counter(&n, 3);
     waits
         & both
         & logged(n, 0, 1)
@@ -69,14 +72,18 @@ pub fn case_e() -> bool {
         commit_ok(8, 0, 0),
     );
     let n = eight();
-    let w = host::wanted(n);
-    waits & unlogged(n, 0) & rests(n) & (w.refusal == 0) & same_set(w.set, words(0, 2))
+    let w = drobulets_server_wanted(&n);
+    waits & unlogged(n, 0) & rests(n) & (w.refusal == 0) & (w.set == words(0, 2))
 }
 
 // The Commits answer 1 and 1.
 pub fn case_f() -> bool {
-    let first = answers(server0(), commit(1, add2(), no_set()), commit_ok(1, 0, 1));
-    let s = after(server0(), commit(1, add2(), no_set()));
+    let first = answers(
+        server0(),
+        commit(1, add2(), Set::default()),
+        commit_ok(1, 0, 1),
+    );
+    let s = after(server0(), commit(1, add2(), Set::default()));
     let second = answers(s, commit(2, add2(), words(2, 0)), commit_ok(2, 0, 1));
     let t = after(s, commit(2, add2(), words(2, 0)));
     first & second & rests(t)
