@@ -115,15 +115,13 @@ pub fn finish(w: Walk, out: &mut [u8]) -> usize
 }
 
 // The text is written at the front of the output. Answers how many bytes it has.
+#[tactic(auto, unfolding(xdr::specs::Over::over))]
 fn put_text(out: &mut [u8], text: &[u8]) -> usize
     requires { length text.now ≤ length out.old }
     ensures long { result ≡ length text.now }
     ensures bytes { out.new ≡ over text.now out.old }
 {
-    let mut i = 0;
-    while i < text.len() {
-        out[i] = text[i];
-        i += 1;
-    }
-    i
+    let n = text.len();
+    out[..n].copy_from_slice(text);
+    n
 }

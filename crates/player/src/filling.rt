@@ -41,17 +41,11 @@ pub fn going(w: Walk) -> bool
     w.phase < OVER && 0 < w.left && w.have <= WINDOW
 }
 
-fn smaller(a: usize, b: usize) -> usize
-    ensures { result ≡ min a b }
-{
-    if a < b { a } else { b }
-}
-
 // How many of the bytes are of what is read.
 pub fn takes(w: Walk, xs: &[u8]) -> usize
     ensures { result ≡ takes w xs.now }
 {
-    smaller(w.left as usize, xs.len())
+    (w.left as usize).min(xs.len())
 }
 
 // The window, with the first `n` bytes at a place.
@@ -60,11 +54,7 @@ fn pasted(kept: [u8; 181], at: usize, xs: &[u8], n: usize) -> [u8; 181]
     ensures { result ≡ paste kept at xs.now n }
 {
     let mut to = kept;
-    let mut i = 0;
-    while i < n {
-        to[at + i] = xs[i];
-        i += 1;
-    }
+    to[at..at + n].copy_from_slice(&xs[..n]);
     to
 }
 
@@ -76,7 +66,7 @@ fn filled(w: Walk, xs: &[u8]) -> Walk
     let left = w.left;
     let k = takes(w, xs);
     let at = w.have;
-    let n = smaller(k, WINDOW - at);
+    let n = k.min(WINDOW - at);
     let old = w.kept;
     let kept = pasted(old, at, xs, n);
     Walk {

@@ -17,4 +17,4 @@ overflow_sub-result c = omega arith
 
 pub returns : goal.returns
 unfolding filled keeps
-returns c = rw (c.pasted-kept.ensures, c.smaller-n.ensures, c.takes-k.ensures)
+returns c = rw (c.pasted-kept.ensures, c.min-n.ensures, c.takes-k.ensures)

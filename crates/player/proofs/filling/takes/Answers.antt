@@ -4,4 +4,4 @@ use Rattle.player.proofs.filling.takes.Goals as goal
 
 pub returns : goal.returns
 unfolding takes
-returns c = c.smaller.ensures
+returns c = c.min.ensures
