@@ -17,9 +17,9 @@ use Rattle.door.specs.Exchange.{take as taken}
 use Rattle.capture.specs.declared.Shown.TheVariants.{Dash}
 use Rattle.capture.specs.Text.{LINE, line}
 use Rattle.capture.proofs.Lengths.{line_short}
+use Rattle.door.specs.declared.Answer.{Answer}
 use Rattle.capture.specs.declared.Told.{Told}
 use Rattle.player.specs.declared.Walk.{Walk}
-use Rattle.player.specs.declared.host.Exchanged.{Exchanged}
 use Rattle.player.specs.declared.Look.{Look}
 use Rattle.player.specs.declared.Play.{Play}
 use Rattle.player.specs.Replay.{unread, read, room, answered, Played, played}
@@ -325,16 +325,16 @@ module _ {w : Walk} {ss : List Server} {xs z : List ℕ} {v : Walk} {vs : List S
 -- ---- a record's data as code plays it
 
 -- a server of the twelve took the message, which follows the destination in the window
-pub fed_plays : (vs : List Server) (n : Walk) (l : Look) (d : Server) (e : Exchanged) (out : List ℕ) (told : Told)
+pub fed_plays : (vs : List Server) (n : Walk) (l : Look) (d : Server) (r : Answer) (s : Server) (out : List ℕ) (told : Told)
     → length vs ≡ 12 → l ≡ look (seen n) → l.to < 12 → l.fed ≡ true
     → (let x = taken (get_or vs l.to d) (take (n.have - 4) (drop 4 n.kept)) room in
-    (e ≡ record { answer = x.answer; server = x.server }) × (out ≡ x.output) → told ≡ answer_shown l.told e.answer out → played vs (seen n) ≡ record { told = told; servers = set vs l.to e.server })
-fed_plays vs n l d e out told long is below fed t a =
+    (r ≡ x.answer) × (s ≡ x.server) × (out ≡ x.output) → told ≡ answer_shown l.told r out → played vs (seen n) ≡ record { told = told; servers = set vs l.to s })
+fed_plays vs n l d r s out told long is below fed t a =
     let four : 4 ≤ n.have = omega (arith, fed_long (seen n) (rw is at fed), length-take n.have n.kept) in
     let m : n.have ≡ 4 + (n.have - 4) = omega arith in
     let part : drop 4 (seen n) ≡ take (n.have - 4) (drop 4 n.kept) = ap (λ (k : ℕ). drop 4 (take k n.kept)) m ∙ drop-take 4 (n.have - 4) n.kept in
     let from : get_or vs (look (seen n)).to (fresh_server (look (seen n)).to) ≡ get_or vs l.to d = rw (← is) (get_or_default vs l.to (fresh_server l.to) d (omega arith)) in
-    is_fed vs (seen n) (rw is at fed) ∙ rw (from, part, ← is, a, t.1, t.0) refl
+    is_fed vs (seen n) (rw is at fed) ∙ rw (from, part, ← is, a, t.2, t.1, t.0) refl
 
 pub unfed_plays : (vs : List Server) (n : Walk) (l : Look) → l ≡ look (seen n) → l.fed ≡ false → played vs (seen n) ≡ record { told = l.told; servers = vs }
 unfed_plays vs n l is e = not_fed vs (seen n) (rw is at e) ∙ rw (← is) refl

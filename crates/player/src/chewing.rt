@@ -7,12 +7,12 @@ ghost use Rattle.player.specs.Replay.{twelve};
 ghost use Rattle.player.specs.Walking.{begun, chewed, ending, played_of};
 
 use crate::filling::{after_data, begun, bitten, going, takes, whole};
-use crate::host::take;
 use crate::looking::{answered, look};
 use crate::{Play, Walk};
 use capture::text::{LINE, put_line};
 use server::{Log, Server};
 use server_run::first::{fresh_record, no_counters};
+use station::servers::drobulets_server_take;
 
 fn fresh_server(id: u32) -> Server
     ensures { result ≡ fresh_server id }
@@ -76,13 +76,8 @@ pub fn chew(p: Play, portion: &[u8], out: &mut [u8]) -> Play
             let l = look(&kept[..have]);
             let mut told = l.told;
             if l.fed {
-                let to = l.to;
-                let s = servers[to];
                 let mut room = [0u8; 176];
-                let e = take(s, &kept[4..have], &mut room);
-                let t = e.server;
-                servers[to] = t;
-                let a = e.answer;
+                let a = drobulets_server_take(&mut servers[l.to], &kept[4..have], &mut room);
                 told = answered(told, a, &room);
             }
             made = put_line(out, made, w.number, w.seconds, told);

@@ -4,7 +4,6 @@
 use capture::Told;
 use server::Server;
 
-pub mod host; // host.rt: a server that stands in a local takes a message
 mod filling; // filling.rt: bytes are kept until what is read is whole
 mod looking; // looking.rt: what a record's data says
 pub mod chewing; // chewing.rt: a portion of the file is played

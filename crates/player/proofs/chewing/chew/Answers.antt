@@ -18,13 +18,13 @@ overflow_add-at c =
     let taken = rw take_rest at c.takes-taken.ensures in
     omega (arith, taken, takes_within c.loop-at.walk c.args.portion.now c.loop-at.at c.loop-at.invariant.taken)
 
-pub slice_bounds-take-count : goal.slice_bounds-take-count
-slice_bounds-take-count c =
+pub slice_bounds-drobulets_server_take-count : goal.slice_bounds-drobulets_server_take-count
+slice_bounds-drobulets_server_take-count c =
     let n = c.bitten-w.result in
     omega (arith, fed_long (seen n) (rw c.look-l.ensures.is at c.if-l.true), length-take n.have n.kept)
 
-pub slice_bounds-take-start : goal.slice_bounds-take-start
-slice_bounds-take-start c =
+pub slice_bounds-drobulets_server_take-start : goal.slice_bounds-drobulets_server_take-start
+slice_bounds-drobulets_server_take-start c =
     let n = c.bitten-w.result in
     omega (arith, fed_long (seen n) (rw c.look-l.ensures.is at c.if-l.true), length-take n.have n.kept)
 
@@ -50,12 +50,12 @@ loop-at-preserved-then-whole c =
     let bitten = rw take_rest at c.bitten-w.ensures.is in
     let plays : played vs (seen n) ≡ record { told = c.if-l.told; servers = c.if-l.servers } =
     elim c.if-l.branch [
-      | then-l w ↦ fed_plays vs n l _ w.take-e.result w.take-e.new.output w.answered-told.result c.loop-at.invariant.long c.look-l.ensures.is c.look-l.ensures.server w.if-l.true w.take-e.ensures w.answered-told.ensures ∙ rw (w.told-is, w.servers-is)
+      | then-l w ↦ fed_plays vs n l _ w.drobulets_server_take-a.result w.drobulets_server_take-a.new.s w.drobulets_server_take-a.new.output w.answered-told.result c.loop-at.invariant.long c.look-l.ensures.is c.look-l.ensures.server w.if-l.true w.drobulets_server_take-a.ensures w.answered-told.ensures ∙ rw (w.told-is, w.servers-is)
       | else-l w ↦ unfed_plays vs n l c.look-l.ensures.is w.if-l.false ∙ rw (w.told-is, w.servers-is)
     ] in
     let long : length c.if-l.servers ≡ 12 =
     elim c.if-l.branch [
-      | then-l w ↦ ap length w.servers-is ∙ length-set vs l.to w.take-e.result.server ∙ c.loop-at.invariant.long
+      | then-l w ↦ ap length w.servers-is ∙ length-set vs l.to w.drobulets_server_take-a.new.s ∙ c.loop-at.invariant.long
       | else-l w ↦ ap length w.servers-is ∙ c.loop-at.invariant.long
     ] in
     rw (taken, c.after_data-walk.ensures)
