@@ -18,6 +18,6 @@ pub next : {at : ℕ} {z : List ℕ} {m : ℕ} {xs : List ℕ} {a : ℕ} {z₁ :
 next {at} {z} {xs = xs} {ys = ys} n s h w p = record { put = put-put at xs ys z (omega arith) w.put p; short = rw length-append (omega arith) }
 
 pub line_in_a_row : (number seconds : ℕ) (o : Told)
-    → ((((((((decimal number ++ SPACE ∷ []) ++ decimal seconds) ++ SPACE ∷ []) ++ maybe o.read o.code) ++ SPACE ∷ []) ++ maybe o.read o.t) ++ SPACE ∷ []) ++ shown o.answer) ++ NEWLINE ∷ [] ≡ line number seconds o
+    → ((((((((decimal number ++ SPACE ∷ []) ++ decimal seconds) ++ SPACE ∷ []) ++ maybe o.code) ++ SPACE ∷ []) ++ maybe o.t) ++ SPACE ∷ []) ++ shown o.answer) ++ NEWLINE ∷ [] ≡ line number seconds o
 unfolding line
 line_in_a_row number seconds o = simp append_snoc

@@ -4,6 +4,7 @@ use native.Mathlib.Omega.{arith}
 use mathlib.Core.Bool.{Bool, true, false}
 use mathlib.Core.List.{List, [], ◌∷◌, ◌++◌}
 use lib.Dec.{ltb}
+use Rattle.std.specs.Prelude.{Option, Some, None}
 use lib.ListN.{length, length-append}
 use Rattle.rules.specs.Choice.{◌if◌else◌}
 use Rattle.capture.specs.declared.Shown.{Shown}
@@ -26,10 +27,10 @@ pub decimal_short : (n : ℕ) → length (decimal n) ≤ 20
 unfolding decimal
 decimal_short n = digits_short 20 n
 
-pub maybe_short : (some : Bool) (n : ℕ) → length (maybe some n) ≤ 20
+pub maybe_short : (n : Option ℕ) → length (maybe n) ≤ 20
 unfolding maybe
-maybe_short true n = decimal_short n
-maybe_short false n = omega arith
+maybe_short (Some n) = decimal_short n
+maybe_short None = omega arith
 
 pub shown_short : (answer : Shown) → length (shown answer) ≤ 22
 unfolding shown
@@ -40,4 +41,4 @@ shown_short (Refusal n) = omega (arith, decimal_short n)
 pub line_short : (number seconds : ℕ) (o : Told) → length (line number seconds o) ≤ LINE
 unfolding line
 line_short number seconds o =
-    simp length-append (omega (arith, decimal_short number, decimal_short seconds, maybe_short o.read o.code, maybe_short o.read o.t, shown_short o.answer))
+    simp length-append (omega (arith, decimal_short number, decimal_short seconds, maybe_short o.code, maybe_short o.t, shown_short o.answer))

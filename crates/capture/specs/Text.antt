@@ -1,6 +1,6 @@
 -- Document 02, request 3: a record's line: its number, the seconds, the code, T, and the answer's code, or `r` and the refusal; decimals, with single spaces between.
 -- A dash stands for a coordinator's answer, and for the code and T of data that can't be decoded.
-use Rattle.std.specs.Prelude.{ℕ, zero, suc, ◌+◌, ◌/◌, ◌%◌, Bool, List, [], ◌∷◌, ◌++◌, ltb}
+use Rattle.std.specs.Prelude.{ℕ, zero, suc, ◌+◌, ◌/◌, ◌%◌, Option, Some, None, List, [], ◌∷◌, ◌++◌, ltb}
 use Rattle.rules.specs.Choice.{◌if◌else◌}
 use Rattle.capture.specs.declared.Shown.{Shown}
 use Rattle.capture.specs.declared.Shown.TheVariants.{Dash, Code, Refusal}
@@ -28,8 +28,9 @@ abbrev pub LETTER-R : ℕ
 LETTER-R = 114
 
 -- a number where there is one
-unfoldable pub maybe : Bool → ℕ → List ℕ
-maybe some n = decimal n if some else DASH ∷ []
+unfoldable pub maybe : Option ℕ → List ℕ
+maybe (Some n) = decimal n
+maybe None = DASH ∷ []
 
 unfoldable pub shown : Shown → List ℕ
 shown Dash = DASH ∷ []
@@ -38,7 +39,7 @@ shown (Refusal n) = LETTER-R ∷ SPACE ∷ decimal n
 
 unfoldable pub line : (number seconds : ℕ) → Told → List ℕ
 line number seconds o =
-    decimal number ++ SPACE ∷ decimal seconds ++ SPACE ∷ maybe o.read o.code ++ SPACE ∷ maybe o.read o.t ++ SPACE ∷ shown o.answer ++ NEWLINE ∷ []
+    decimal number ++ SPACE ∷ decimal seconds ++ SPACE ∷ maybe o.code ++ SPACE ∷ maybe o.t ++ SPACE ∷ shown o.answer ++ NEWLINE ∷ []
 
 -- no line is longer
 abbrev pub LINE : ℕ

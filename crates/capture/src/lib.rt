@@ -30,8 +30,7 @@ pub enum Shown {
 // What a line says of a record's data. Where it wasn't read there is no code and no T.
 #[derive(Clone, Copy)]
 pub struct Told {
-    pub read: bool,
-    pub code: u32,
-    pub t: u32,
+    pub code: Option<u32>,
+    pub t: Option<u32>,
     pub answer: Shown,
 }

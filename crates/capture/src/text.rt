@@ -52,14 +52,14 @@ pub fn put_decimal(out: &mut [u8], at: usize, n: u64) -> usize
 }
 
 // A number where there is one, else a dash.
-fn put_maybe(out: &mut [u8], at: usize, some: bool, n: u32) -> usize
+#[tactic(auto, unfolding(crate::specs::Text::maybe))]
+fn put_maybe(out: &mut [u8], at: usize, number: Option<u32>) -> usize
     requires { at + 20 ≤ length out.old }
-    ensures { Put at (maybe some n) out.old result out.new }
+    ensures { Put at (maybe number) out.old result out.new }
 {
-    if some {
-        put_decimal(out, at, n as u64)
-    } else {
-        put_byte(out, at, DASH)
+    match number {
+        Some(n) => put_decimal(out, at, u64::from(n)),
+        None => put_byte(out, at, DASH),
     }
 }
 
@@ -87,9 +87,9 @@ pub fn put_line(out: &mut [u8], at: usize, number: u64, seconds: u32, o: Told) -
     let b = put_byte(out, a, SPACE);
     let c = put_decimal(out, b, seconds as u64);
     let d = put_byte(out, c, SPACE);
-    let e = put_maybe(out, d, o.read, o.code);
+    let e = put_maybe(out, d, o.code);
     let f = put_byte(out, e, SPACE);
-    let g = put_maybe(out, f, o.read, o.t);
+    let g = put_maybe(out, f, o.t);
     let h = put_byte(out, g, SPACE);
     let answer = o.answer;
     let i = put_shown(out, h, answer);

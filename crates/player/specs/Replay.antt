@@ -1,5 +1,5 @@
 -- Document 02, request 3: what is printed of a capture, from its bytes alone. Its records are played to twelve fresh servers, in the file's order.
-use Rattle.std.specs.Prelude.{ℕ, zero, suc, ◌+◌, ◌%◌, ◌^◌, Bool, true, false, List, [], ◌++◌, length, take, drop, replicate, ◌==◌, nat_le, nat_lt, slice_index_or, slice_set}
+use Rattle.std.specs.Prelude.{ℕ, zero, suc, ◌+◌, ◌%◌, ◌^◌, Bool, true, false, Some, None, List, [], ◌++◌, length, take, drop, replicate, ◌==◌, nat_le, nat_lt, slice_index_or, slice_set}
 use Rattle.masks.specs.Folds.{tab}
 use Rattle.rules.specs.Choice.{◌if◌else◌}
 use Rattle.rules.specs.Flags.{there}
@@ -23,10 +23,10 @@ unfoldable pub twelve : List Server
 twelve = tab fresh_server SERVERS
 
 abbrev pub unread : (refusal : ℕ) → Told
-unread n = record { read = false; code = 0; t = 0; answer = Refusal n }
+unread n = record { code = None; t = None; answer = Refusal n }
 
 abbrev pub read : Message → Shown → Told
-read m answer = record { read = true; code = m.code; t = m.t; answer = answer }
+read m answer = record { code = Some m.code; t = Some m.t; answer = answer }
 
 -- a server takes the message's bytes as a host lends them, with room for the longest answer, and the answer begins with its code
 abbrev pub room : List ℕ

@@ -112,7 +112,7 @@ unfoldable pub shown_of : Answer → (output : List ℕ) → Shown
 shown_of a z = Refusal a.refusal if there a.refusal else Code (value (take 4 z))
 
 unfoldable pub answer_shown : Told → Answer → (output : List ℕ) → Told
-answer_shown o a z = record { read = o.read; code = o.code; t = o.t; answer = shown_of a z }
+answer_shown o a z = record { code = o.code; t = o.t; answer = shown_of a z }
 
 -- what was taken and printed, and what is there then
 pub record Chewed : Type 0 where

@@ -14,9 +14,8 @@ fn unread(refusal: u32) -> Look
     ensures { result ≡ looked (unread refusal) false 0 }
 {
     let told = Told {
-        read: false,
-        code: 0,
-        t: 0,
+        code: None,
+        t: None,
         answer: Shown::Refusal(refusal),
     };
     Look {
@@ -43,9 +42,8 @@ pub fn look(bytes: &[u8]) -> Look
         return unread(d.refusal);
     }
     let told = Told {
-        read: true,
-        code: d.message.code,
-        t: d.message.t,
+        code: Some(d.message.code),
+        t: Some(d.message.t),
         answer: Shown::Dash,
     };
     if SERVERS <= to {
@@ -79,10 +77,5 @@ pub fn answered(told: Told, a: Answer, output: &[u8]) -> Told
     ensures { result ≡ answer_shown told a output.now }
 {
     let answer = shown(a, output);
-    Told {
-        read: told.read,
-        code: told.code,
-        t: told.t,
-        answer,
-    }
+    Told { answer, ..told }
 }

@@ -28,27 +28,27 @@ put_maybe-e-requires c =
 pub put_byte-f-requires : goal.put_byte-f-requires
 put_byte-f-requires c =
     let a = c.args in
-    omega (arith, decimal_short a.number, decimal_short a.seconds, maybe_short a.o.read a.o.code)
+    omega (arith, decimal_short a.number, decimal_short a.seconds, maybe_short a.o.code)
 
 pub put_maybe-g-requires : goal.put_maybe-g-requires
 put_maybe-g-requires c =
     let a = c.args in
-    omega (arith, decimal_short a.number, decimal_short a.seconds, maybe_short a.o.read a.o.code)
+    omega (arith, decimal_short a.number, decimal_short a.seconds, maybe_short a.o.code)
 
 pub put_byte-h-requires : goal.put_byte-h-requires
 put_byte-h-requires c =
     let a = c.args in
-    omega (arith, decimal_short a.number, decimal_short a.seconds, maybe_short a.o.read a.o.code, maybe_short a.o.read a.o.t)
+    omega (arith, decimal_short a.number, decimal_short a.seconds, maybe_short a.o.code, maybe_short a.o.t)
 
 pub put_shown-i-requires : goal.put_shown-i-requires
 put_shown-i-requires c =
     let a = c.args in
-    omega (arith, decimal_short a.number, decimal_short a.seconds, maybe_short a.o.read a.o.code, maybe_short a.o.read a.o.t)
+    omega (arith, decimal_short a.number, decimal_short a.seconds, maybe_short a.o.code, maybe_short a.o.t)
 
 pub put_byte-requires : goal.put_byte-requires
 put_byte-requires c =
     let a = c.args in
-    omega (arith, decimal_short a.number, decimal_short a.seconds, maybe_short a.o.read a.o.code, maybe_short a.o.read a.o.t, shown_short a.o.answer)
+    omega (arith, decimal_short a.number, decimal_short a.seconds, maybe_short a.o.code, maybe_short a.o.t, shown_short a.o.answer)
 
 pub returns : goal.returns
 returns c =
@@ -58,9 +58,9 @@ returns c =
     let w₂ = next 1 (omega arith) (omega arith) w₁ c.put_byte-b.ensures in
     let w₃ = next 20 (decimal_short a.seconds) (omega arith) w₂ c.put_decimal-c.ensures in
     let w₄ = next 1 (omega arith) (omega arith) w₃ c.put_byte-d.ensures in
-    let w₅ = next 20 (maybe_short a.o.read a.o.code) (omega arith) w₄ c.put_maybe-e.ensures in
+    let w₅ = next 20 (maybe_short a.o.code) (omega arith) w₄ c.put_maybe-e.ensures in
     let w₆ = next 1 (omega arith) (omega arith) w₅ c.put_byte-f.ensures in
-    let w₇ = next 20 (maybe_short a.o.read a.o.t) (omega arith) w₆ c.put_maybe-g.ensures in
+    let w₇ = next 20 (maybe_short a.o.t) (omega arith) w₆ c.put_maybe-g.ensures in
     let w₈ = next 1 (omega arith) (omega arith) w₇ c.put_byte-h.ensures in
     let w₉ = next 22 (shown_short a.o.answer) (omega arith) w₈ c.put_shown-i.ensures in
     let w₁₀ = next 1 (omega arith) (omega arith) w₉ c.put_byte.ensures in
