@@ -23,6 +23,7 @@ fn headed(little: bool, s: &[u8]) -> bool
 }
 
 // Whether a file that begins with these bytes begins as it should, and its byte order.
+#[tactic(auto, unfolding(crate::specs::Pcap::header))]
 pub fn header(s: &[u8]) -> Header
     ensures { result ≡ header s.now }
 {
@@ -51,6 +52,7 @@ pub fn header(s: &[u8]) -> Header
 }
 
 // The head of a record.
+#[tactic(auto, unfolding(crate::specs::Pcap::head))]
 pub fn head(little: bool, s: &[u8]) -> Head
     requires { 16 ≤ length s.now }
     ensures { result ≡ head little s.now }

@@ -14,6 +14,7 @@ fn four(a: u8, b: u8, c: u8, d: u8) -> u32
     two(a, b) * 65536 + two(c, d)
 }
 
+#[tactic(auto, unfolding(crate::specs::Pcap::half, xdr::specs::Word::value))]
 pub fn half(little: bool, s: &[u8], at: usize) -> u32
     requires { at + 2 ≤ length s.now }
     ensures { result ≡ half little s.now at }
@@ -23,6 +24,7 @@ pub fn half(little: bool, s: &[u8], at: usize) -> u32
     if little { two(b, a) } else { two(a, b) }
 }
 
+#[tactic(auto, unfolding(crate::specs::Pcap::word, xdr::specs::Word::value))]
 pub fn word(little: bool, s: &[u8], at: usize) -> u32
     requires { at + 4 ≤ length s.now }
     ensures { result ≡ word little s.now at }

@@ -14,6 +14,7 @@ use server::{Log, Server};
 use server_run::first::{fresh_record, no_counters};
 use station::servers::drobulets_server_take;
 
+#[tactic(auto, unfolding(server::specs::Host::fresh_server))]
 fn fresh_server(id: u32) -> Server
     ensures { result ≡ fresh_server id }
 {
@@ -32,6 +33,7 @@ fn fresh_server(id: u32) -> Server
 }
 
 // Twelve fresh servers, at the front of a file.
+#[tactic(auto, unfolding(crate::specs::Replay::twelve, masks::specs::Folds::tab))]
 pub fn first() -> Play
     ensures { result ≡ record { walk = begun; servers = twelve; taken = 0; made = 0 } }
 {

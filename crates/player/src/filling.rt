@@ -20,6 +20,7 @@ const DATA: u32 = 2;
 const OVER: u32 = 3;
 
 // At the front of a file.
+#[tactic(auto, unfolding(crate::specs::Walking::begun))]
 pub fn begun() -> Walk
     ensures { result ≡ begun }
 {
@@ -35,6 +36,7 @@ pub fn begun() -> Walk
 }
 
 // There is more to read.
+#[tactic(auto, unfolding(crate::specs::Walking::going))]
 pub fn going(w: Walk) -> bool
     ensures { result ≡ going w }
 {
@@ -42,6 +44,7 @@ pub fn going(w: Walk) -> bool
 }
 
 // How many of the bytes are of what is read.
+#[tactic(auto, unfolding(crate::specs::Walking::takes))]
 pub fn takes(w: Walk, xs: &[u8]) -> usize
     ensures { result ≡ takes w xs.now }
 {
@@ -59,6 +62,7 @@ fn pasted(kept: [u8; 181], at: usize, xs: &[u8], n: usize) -> [u8; 181]
 }
 
 // The bytes are kept, as far as the window has room.
+#[tactic(auto, unfolding(crate::specs::Walking::takes, crate::specs::Walking::filled, crate::specs::Walking::keeps))]
 fn filled(w: Walk, xs: &[u8]) -> Walk
     requires { w.have ≤ WINDOW }
     ensures { result ≡ filled w xs.now }
@@ -96,6 +100,7 @@ fn reads(w: Walk, phase: u32, little: bool, number: u64, seconds: u32, left: u32
 }
 
 // The header is whole.
+#[tactic(auto, unfolding(crate::specs::Walking::after_header))]
 fn after_header(w: Walk) -> Walk
     ensures { result ≡ after_header w }
 {
@@ -109,6 +114,7 @@ fn after_header(w: Walk) -> Walk
 }
 
 // A record's head is whole.
+#[tactic(auto, unfolding(crate::specs::Walking::after_head))]
 fn after_head(w: Walk) -> Walk
     ensures { result ≡ after_head w }
 {
@@ -142,6 +148,7 @@ pub fn bitten(w: Walk, xs: &[u8]) -> Walk
 }
 
 // A record's data is whole.
+#[tactic(auto, unfolding(crate::specs::Walking::whole))]
 pub fn whole(w: Walk) -> bool
     ensures { result ≡ whole w }
 {
@@ -149,6 +156,7 @@ pub fn whole(w: Walk) -> bool
 }
 
 // The next record's head is read.
+#[tactic(auto, unfolding(crate::specs::Walking::after_data, crate::specs::Replay::next))]
 pub fn after_data(w: Walk) -> Walk
     ensures { result ≡ after_data w }
 {

@@ -26,6 +26,7 @@ fn unread(refusal: u32) -> Look
 }
 
 // The destination, and then the message.
+#[tactic(auto, unfolding(crate::specs::Walking::look))]
 pub fn look(bytes: &[u8]) -> Look
     ensures is { result ≡ look bytes.now }
     ensures server { result.to < 12 }
@@ -61,6 +62,7 @@ pub fn look(bytes: &[u8]) -> Look
 }
 
 // What a server answered, at the front of the output.
+#[tactic(auto, unfolding(crate::specs::Walking::shown_of))]
 fn shown(a: Answer, output: &[u8]) -> Shown
     requires { 4 ≤ length output.now }
     ensures { result ≡ shown_of a output.now }
@@ -72,6 +74,7 @@ fn shown(a: Answer, output: &[u8]) -> Shown
 }
 
 // The same, with the server's answer.
+#[tactic(auto, unfolding(crate::specs::Walking::answer_shown))]
 pub fn answered(told: Told, a: Answer, output: &[u8]) -> Told
     requires { 4 ≤ length output.now }
     ensures { result ≡ answer_shown told a output.now }
