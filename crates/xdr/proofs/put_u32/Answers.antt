@@ -1,6 +1,10 @@
--- The bytes of a number, the highest first, are those of the number turned, the lowest first. Assumes nothing.
-use Rattle.xdr.specs.Word.{be-turned}
+-- The bytes of a number, the highest first. Assumes nothing.
+use Rattle.std.proofs.Common.{sym, ◌∙◌, ◌+◌, ◌-◌, arith}
+use Rattle.xdr.specs.Word.{be, be-length}
+use Rattle.xdr.proofs.Bytes.{be-high, put-whole}
 use Rattle.xdr.proofs.put_u32.Goals as goal
 
 pub returns : goal.returns
-returns c = rw (be-turned _ c.ranges.v.fits, ← c.turned.ensures) c.put_low_first.ensures
+returns c =
+    let a = c.args in
+    put-whole a.at (a.at + 4 - a.at) (be 4 a.v) a.out.now (c.copy_from_slice.ensures.after ∙ c.to_be_bytes.ensures ∙ sym (be-high 4 a.v)) (omega (arith, be-length 4 a.v)) (omega arith)
