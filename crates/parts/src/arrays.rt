@@ -1,0 +1,135 @@
+// Pieces and values, and the arrays of them: blank entries stand behind those that are used.
+ghost use Rattle.std.specs.Prelude.{◌≡◌};
+ghost use Rattle.rules.specs.Pieces.{no_piece, no_pieces};
+ghost use Rattle.rules.specs.Values.{no_value, no_values};
+ghost use Rattle.wire.specs.Parts.{piece, pieces, value, values};
+
+use crate::item::{Item, get_rows, put_rows};
+use rules::{Piece, Pieces, Value, Values};
+use xdr::{Cursor, Got};
+
+impl Item for Piece {
+    ghost form = { piece };
+
+    ghost blank = { no_piece };
+
+    fn blank() -> Piece {
+        Piece {
+            shard: 0,
+            key: 0,
+            kind: 0,
+            operand: 0,
+        }
+    }
+
+    fn get(s: &[u8], c: Cursor) -> Got<Piece> {
+        let shard = xdr::get_u32(s, c);
+        let key = xdr::get_u32(s, shard.next);
+        let kind = xdr::get_u32(s, key.next);
+        let operand = xdr::get_i32(s, kind.next);
+        let v = Piece {
+            shard: shard.v,
+            key: key.v,
+            kind: kind.v,
+            operand: operand.v,
+        };
+        Got {
+            v,
+            next: operand.next,
+        }
+    }
+
+    fn put(&self, out: &mut [u8], at: usize) -> usize {
+        let p = *self;
+        let a = xdr::put_u32(out, at, p.shard);
+        let b = xdr::put_u32(out, a, p.key);
+        let c = xdr::put_u32(out, b, p.kind);
+        xdr::put_i32(out, c, p.operand)
+    }
+}
+
+impl Item for Pieces {
+    ghost form = { pieces };
+
+    ghost blank = { no_pieces };
+
+    fn blank() -> Pieces {
+        Pieces {
+            list: [Piece::blank(); 8],
+            count: 0,
+        }
+    }
+
+    fn get(s: &[u8], c: Cursor) -> Got<Pieces> {
+        let mut list = [Piece::blank(); 8];
+        let count = get_rows(s, c, &mut list);
+        let v = Pieces {
+            list,
+            count: count.v,
+        };
+        Got {
+            v,
+            next: count.next,
+        }
+    }
+
+    fn put(&self, out: &mut [u8], at: usize) -> usize {
+        put_rows(out, at, self.count, &self.list)
+    }
+}
+
+impl Item for Value {
+    ghost form = { value };
+
+    ghost blank = { no_value };
+
+    fn blank() -> Value {
+        Value { value: 0, kept: 0 }
+    }
+
+    fn get(s: &[u8], c: Cursor) -> Got<Value> {
+        let value = xdr::get_i32(s, c);
+        let kept = xdr::get_bool(s, value.next);
+        let v = Value {
+            value: value.v,
+            kept: u32::from(kept.v),
+        };
+        Got { v, next: kept.next }
+    }
+
+    fn put(&self, out: &mut [u8], at: usize) -> usize {
+        let v = *self;
+        let a = xdr::put_i32(out, at, v.value);
+        xdr::put_bool(out, a, v.kept != 0)
+    }
+}
+
+impl Item for Values {
+    ghost form = { values };
+
+    ghost blank = { no_values };
+
+    fn blank() -> Values {
+        Values {
+            list: [Value::blank(); 8],
+            count: 0,
+        }
+    }
+
+    fn get(s: &[u8], c: Cursor) -> Got<Values> {
+        let mut list = [Value::blank(); 8];
+        let count = get_rows(s, c, &mut list);
+        let v = Values {
+            list,
+            count: count.v,
+        };
+        Got {
+            v,
+            next: count.next,
+        }
+    }
+
+    fn put(&self, out: &mut [u8], at: usize) -> usize {
+        put_rows(out, at, self.count, &self.list)
+    }
+}
