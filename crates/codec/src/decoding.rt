@@ -9,81 +9,72 @@ ghost use Rattle.encoding.specs.Sections.{front, rest, no_rest, joined};
 use encoding::shapes::has_rest;
 use messages::codes::shape_of;
 use messages::{blank, plain};
-use parts::get_arrays::{get_pieces_if, get_values_if};
-use parts::get_parts::{get_prepared_if, get_set_if, get_u32_if, get_u64_if};
+use parts::item::get_if;
+use rules::{MaybeVote, MaybeWord, Pieces, Set, Values};
 use wire::{Decoded, Message, Shape};
-use xdr::{Cursor, Got32};
+use xdr::{Cursor, Got};
 
 // The header is the code alone: 12 where no message has it, and the value is then 0.
-fn get_header(s: &[u8], c: Cursor) -> Got32
+fn get_header(s: &[u8], c: Cursor) -> Got<u32>
     ensures { Reads code s.now c result.v result.next }
 {
     let a = xdr::get_u32(s, c);
     let k = a.v;
-    let mid = a.next;
-    let h = shape_of(k);
-    let known = h.known;
-    let next = xdr::judge(known, 12, mid);
+    let known = shape_of(k).known;
+    let next = xdr::judge(known, 12, a.next);
     if known {
-        return Got32 { v: k, next };
+        return Got { v: k, next };
     }
-    Got32 { v: 0, next }
+    Got { v: 0, next }
 }
 
 #[derive(Clone, Copy)]
-struct GotFront {
+struct Front {
     pub t: u32,
     pub server: u32,
     pub ballot: u32,
     pub promise: u32,
     pub ran: u32,
-    pub next: Cursor,
 }
 
-fn get_front(s: &[u8], c: Cursor, h: Shape) -> GotFront
-    ensures { Reads (front h) s.now c ((((result.t, result.server), result.ballot), result.promise), result.ran) result.next }
+fn get_front(s: &[u8], c: Cursor, h: Shape) -> Got<Front>
+    ensures { Reads (front h) s.now c ((((result.v.t, result.v.server), result.v.ballot), result.v.promise), result.v.ran) result.next }
 {
     let t = xdr::get_u32(s, c);
-    let c1 = t.next;
-    let server = get_u32_if(h.server, s, c1);
-    let c2 = server.next;
-    let ballot = get_u32_if(h.ballot, s, c2);
-    let c3 = ballot.next;
-    let promise = get_u32_if(h.promise, s, c3);
-    let c4 = promise.next;
-    let ran = get_u32_if(h.ran, s, c4);
-    let next = ran.next;
-    GotFront {
+    let server = get_if::<u32>(h.server, s, t.next);
+    let ballot = get_if::<u32>(h.ballot, s, server.next);
+    let promise = get_if::<u32>(h.promise, s, ballot.next);
+    let ran = get_if::<u32>(h.ran, s, promise.next);
+    let v = Front {
         t: t.v,
         server: server.v,
         ballot: ballot.v,
         promise: promise.v,
         ran: ran.v,
-        next,
-    }
+    };
+    Got { v, next: ran.next }
 }
 
 // The first fault, of n bytes that were read up to a cursor: 11 where bytes are left and nothing else was found.
 fn fault_of(n: usize, c: Cursor) -> u32
     ensures { result ≡ (judged (leb n c.at) 11 c).fault }
 {
-    let at = c.at;
-    let e = xdr::judge(n <= at, 11, c);
-    e.fault
+    xdr::judge(n <= c.at, 11, c).fault
 }
 
 fn refused(refusal: u32) -> Decoded
     ensures { result ≡ record { refusal = refusal; message = blank } }
 {
-    let message = blank();
-    Decoded { refusal, message }
+    Decoded {
+        refusal,
+        message: blank(),
+    }
 }
 
 // A message that ends with its front.
-fn short_message(n: usize, k: u32, f: GotFront) -> Decoded
-    ensures { result ≡ decoded_as (joined k ((((f.t, f.server), f.ballot), f.promise), f.ran) no_rest) (judged (leb n f.next.at) 11 f.next) }
+fn short_message(n: usize, k: u32, f: Front, next: Cursor) -> Decoded
+    ensures { result ≡ decoded_as (joined k ((((f.t, f.server), f.ballot), f.promise), f.ran) no_rest) (judged (leb n next.at) 11 next) }
 {
-    let next = f.next;
     let fault = fault_of(n, next);
     if fault != 0 {
         return refused(fault);
@@ -97,42 +88,31 @@ fn short_message(n: usize, k: u32, f: GotFront) -> Decoded
 }
 
 // A message that has some of the rest behind its front.
-fn long_message(s: &[u8], k: u32, f: GotFront, h: Shape) -> Decoded
-    ensures { result ≡ decoded_as (joined k ((((f.t, f.server), f.ballot), f.promise), f.ran) ((rest h).get s.now f.next).v) (ended s.now ((rest h).get s.now f.next).next) }
+fn long_message(s: &[u8], k: u32, f: Front, c: Cursor, h: Shape) -> Decoded
+    ensures { result ≡ decoded_as (joined k ((((f.t, f.server), f.ballot), f.promise), f.ran) ((rest h).get s.now c).v) (ended s.now ((rest h).get s.now c).next) }
 {
-    let c1 = f.next;
-    let ps = get_pieces_if(h.pieces, s, c1);
-    let pieces = ps.v;
-    let c2 = ps.next;
-    let st = get_set_if(h.set, s, c2);
-    let set = st.v;
-    let c3 = st.next;
-    let word = get_u64_if(h.word, s, c3);
-    let c4 = word.next;
-    let pr = get_prepared_if(h.prepared, s, c4);
-    let arrival = pr.arrival;
-    let accepted = pr.accepted;
-    let c5 = pr.next;
-    let vs = get_values_if(h.values, s, c5);
-    let values = vs.v;
-    let next = vs.next;
-    let n = s.len();
-    let fault = fault_of(n, next);
+    let pieces = get_if::<Pieces>(h.pieces, s, c);
+    let set = get_if::<Set>(h.set, s, pieces.next);
+    let word = get_if::<u64>(h.word, s, set.next);
+    let prepared = get_if::<(MaybeWord, MaybeVote)>(h.prepared, s, word.next);
+    let values = get_if::<Values>(h.values, s, prepared.next);
+    let fault = fault_of(s.len(), values.next);
     if fault != 0 {
         return refused(fault);
     }
+    let (arrival, accepted) = prepared.v;
     let message = Message {
         code: k,
         t: f.t,
         server: f.server,
         ballot: f.ballot,
         promise: f.promise,
-        pieces,
-        set,
+        pieces: pieces.v,
+        set: set.v,
         word: word.v,
         arrival,
         accepted,
-        values,
+        values: values.v,
         ran: f.ran,
     };
     Decoded {
@@ -144,14 +124,12 @@ fn long_message(s: &[u8], k: u32, f: GotFront, h: Shape) -> Decoded
 pub fn decode(bytes: &[u8]) -> Decoded
     ensures { result ≡ decode bytes.now }
 {
-    let c = Cursor { at: 0, fault: 0 };
-    let k = get_header(bytes, c);
-    let code = k.v;
-    let next = k.next;
-    let h = shape_of(code);
-    let f = get_front(bytes, next, h);
+    let start = Cursor { at: 0, fault: 0 };
+    let code = get_header(bytes, start);
+    let h = shape_of(code.v);
+    let f = get_front(bytes, code.next, h);
     if has_rest(h) {
-        return long_message(bytes, code, f, h);
+        return long_message(bytes, code.v, f.v, f.next, h);
     }
-    short_message(bytes.len(), code, f)
+    short_message(bytes.len(), code.v, f.v, f.next)
 }

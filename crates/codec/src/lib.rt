@@ -4,11 +4,12 @@
 ghost use Rattle.std.specs.Prelude.{◌≡◌, true};
 ghost use Rattle.wire.specs.Bytes.{decode};
 ghost use Rattle.wire.specs.Encoding.{encode};
-ghost use Rattle.encoding.specs.Answers.{answer};
+ghost use Rattle.encoding.specs.Answers.{answer, told_of};
 ghost use Rattle.codec.specs.Exact.{is_bare};
 
-use encoding::Encoded;
+use encoding::{Encoded, shapes};
 use rules::MaybeWord;
+use rules::refusals::Refusal;
 use wire::{Decoded, Message};
 
 mod exact; // exact.rt: a message that is as long as its code says, read
@@ -18,13 +19,11 @@ mod decoding; // decoding.rt: a message read by its sections, and the first faul
 pub fn decode(bytes: &[u8]) -> Decoded
     ensures { result ≡ decode bytes.now }
 {
-    let a = exact::see_asked(bytes);
-    if a.exact {
-        return exact::read_asked(bytes, a.code, a.at, a.count);
+    if let Some(seen) = exact::see_asked(bytes) {
+        return exact::read_asked(bytes, seen);
     }
-    let b = exact::see_answered(bytes);
-    if b.exact {
-        return exact::read_answered(bytes, b.code);
+    if let Some(code) = exact::see_answered(bytes) {
+        return exact::read_answered(bytes, code);
     }
     decoding::decode(bytes)
 }
@@ -77,65 +76,29 @@ pub fn by_fields(d: Decoded) -> Decoded
 pub fn encode(message: Message, out: &mut [u8]) -> Encoded
     ensures { (result ≡ answer (encode message out.old)) × (out.new ≡ (encode message out.old).buffer) }
 {
-    let code = message.code;
-    if encoding::shapes::bare(code) {
-        return encoding::bare(out, code, message.t);
-    }
-    if encoding::shapes::asked(code) {
-        let list = message.pieces.list;
-        let set = message.set;
-        return encoding::asked(
-            out,
-            code,
-            message.t,
-            message.ballot,
-            list,
-            message.pieces.count,
-            set,
-        );
-    }
-    if encoding::shapes::answered(code) {
-        let arrival = message.arrival;
-        let accepted = message.accepted;
-        let values = message.values;
-        return encoding::answered(
-            out,
-            code,
-            message.t,
-            message.server,
-            message.ballot,
-            message.promise,
-            message.ran,
-            message.word,
-            arrival,
-            accepted,
-            values,
-        );
-    }
-    encoding::refused(encoding::UNWRITABLE)
+    Encoded::from(written(&message, out))
 }
 
-// The same, of a message that is lent: for what hosts send most, only the fields that its code has are taken from where it stands.
-pub fn encode_lent(message: Message, out: &mut [u8]) -> Encoded
-    ensures { (result ≡ answer (encode message out.old)) × (out.new ≡ (encode message out.old).buffer) }
+// The same, of a message that is lent.
+pub fn encode_lent(message: &Message, out: &mut [u8]) -> Encoded
+    ensures { (result ≡ answer (encode message.now out.old)) × (out.new ≡ (encode message.now out.old).buffer) }
+{
+    Encoded::from(written(message, out))
+}
+
+// By the kind of the message: how many bytes it takes.
+fn written(message: &Message, out: &mut [u8]) -> Result<u32, Refusal>
+    ensures { (told_of result ≡ answer (encode message.now out.old)) × (out.new ≡ (encode message.now out.old).buffer) }
 {
     let code = message.code;
-    if encoding::shapes::bare(code) {
-        return encoding::bare(out, code, message.t);
+    if shapes::bare(code) {
+        return encoding::bare(out, message);
     }
-    if encoding::shapes::asked(code) {
-        let list = message.pieces.list;
-        let set = message.set;
-        return encoding::asked(
-            out,
-            code,
-            message.t,
-            message.ballot,
-            list,
-            message.pieces.count,
-            set,
-        );
+    if shapes::asked(code) {
+        return encoding::asked(out, message);
     }
-    let m = message;
-    encode(m, out)
+    if shapes::answered(code) {
+        return encoding::answered(out, message);
+    }
+    Err(Refusal::Unknown)
 }

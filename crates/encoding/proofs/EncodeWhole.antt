@@ -1,20 +1,20 @@
 -- What is sent of each kind of message is what the definition of encoding says. Assumes nothing.
 use mathlib.Core.Path.{◌≡◌, refl, sym, ap, ◌∙◌}
 use mathlib.Core.Bool.{Bool, true, false, not, cond, ◌&&◌, ◌||◌, or-false}
-use mathlib.Core.List.{List, append_assoc, append-nil}
+use mathlib.Core.List.{List, [], ◌∷◌, append_assoc, append-nil}
 use Prim.Native.Nat.{ℕ, ◌+◌, ◌*◌, ◌≤◌, ◌<◌}
+use native.Mathlib.Nat.{mul-le-mul_right}
 use native.Mathlib.Omega.{arith}
 use lib.Dec.{ltb, eqb}
-use lib.ListN.{length, take, drop, length-append}
+use lib.ListN.{length, take, drop, length-append, length-take}
 use lib.Seq.{take_at}
 use borrow.Author.Tests.{lt-ltb, le-ltb}
 use Rattle.xdr.specs.Word.{be-length}
 use Rattle.xdr.specs.Over.{over, Put}
-use Rattle.xdr.specs.Form.{Form, u32, u64, when}
-use Rattle.xdr.specs.Array.{flat-first}
+use Rattle.xdr.specs.Form.{Form, u32, u64, when, flat}
+use Rattle.xdr.specs.Array.{flat-length}
 use Rattle.xdr.proofs.Windows.{cost}
-use Rattle.rules.specs.declared.Piece.{Piece}
-use Rattle.rules.specs.declared.Set.{Set}
+use Rattle.rules.specs.declared.Pieces.{Pieces}
 use Rattle.rules.specs.declared.MaybeWord.{MaybeWord}
 use Rattle.rules.specs.declared.MaybeVote.{MaybeVote}
 use Rattle.rules.specs.declared.Values.{Values}
@@ -25,11 +25,11 @@ use Rattle.rules.specs.Values.{no_values}
 use Rattle.wire.specs.declared.Message.{Message}
 use Rattle.wire.specs.declared.Shape.{Shape}
 use Rattle.wire.specs.Codes.{shape_of, unknown}
-use Rattle.wire.specs.Parts.{piece, pieces, set4, prepared, values}
+use Rattle.wire.specs.Parts.{piece, pieces, value, set4, prepared, values}
 use Rattle.wire.specs.Bytes.{body, code, bytes, unwritable, encode_refusal}
 use Rattle.wire.specs.Encoding.{Encoding, refused, written, encode}
 use Rattle.wire.proofs.Longest.{cost_le}
-use Rattle.wire.proofs.Lengths.{piece-length, set-length, values_length, maybe-word-length, maybe-vote-length}
+use Rattle.wire.proofs.Lengths.{piece-length, value-length, set-length, maybe-word-length, maybe-vote-length}
 use Rattle.encoding.specs.Answers.{sent}
 use Rattle.encoding.specs.Sections.{front, front_length, cat}
 use Rattle.encoding.specs.ByKind.{bare, asked, answered, bare_shape, asked_shape, answered_shape, kind_shape, bare_sections, asked_sections, answered_sections}
@@ -47,68 +47,99 @@ front_length_lem h t s b p n =
     let has : (c : Bool) (v : ℕ) → length ((when 0 u32 c).put v) ≡ cost c 4 = λ c v. when_length 0 u32 c v (λ _. be-length 4 v) in
     simp length-append (omega (arith, be-length 4 t, has h.server s, has h.ballot b, has h.promise p, has h.ran n))
 
-both-cost : (b : Bool) → cost b 4 + cost b 32 ≡ cost b 36
-both-cost true = refl
-both-cost false = refl
+-- ---- and how many at most
 
-prepared-length : (a : MaybeWord) (v : MaybeVote) → length (prepared.put (a, v)) ≡ (4 + cost (there a.some) 8) + (4 + cost (there v.some) 36)
-prepared-length a v =
-    let w = when_length 0 u64 (there a.some) a.word (λ _. be-length 8 a.word) in
-    let b = when_length 0 u32 (there v.some) v.ballot (λ _. be-length 4 v.ballot) in
-    let s = when_length no_set set4 (there v.some) v.set (λ _. set-length v.set) in
-    simp length-append (omega (arith, maybe-word-length a, maybe-vote-length v, both-cost (there v.some)))
+flat-most : {A : Type 0} (F : Form A) (w : ℕ) → ((a : A) → length (F.put a) ≡ w) → (xs : List A) (n : ℕ) → length (flat F (take n xs)) ≤ n * w
+flat-most F w wide xs n =
+    let k : length (take n xs) ≤ n = omega (arith, length-take n xs) in
+    omega (arith, flat-length F w wide (take n xs), mul-le-mul_right w k)
 
-pub bare-length : (k t : ℕ) → length (cat (bare_sections k t)) ≡ 8
-unfolding code
-bare-length k t = simp (length-append, be-length)
+pieces-most : (p : Pieces) → p.count ≤ 8 → length (pieces.put p) ≤ 132
+unfolding pieces
+pieces-most p h = simp length-append (omega (arith, be-length 4 p.count, flat-most piece 16 piece-length p.list p.count))
 
-pub asked-length : (h : Shape) (k t b : ℕ) (l : List Piece) (n : ℕ) (v : Set) → length l ≡ 8 → n ≤ 8
-    → length (cat (asked_sections h k t b l n v)) ≡ ((4 + front_length h) + (4 + n * 16)) + cost h.set 32
-unfolding code
-asked-length h k t b l n v e m =
-    let f = flat-first piece 16 piece-length l n (omega arith) in
-    let s = when_length no_set set4 h.set v (λ _. set-length v) in
-    simp length-append (omega (arith, be-length 4 k, front_length_lem h t 0 b 0 0, be-length 4 n))
+values-most : (r : Values) → r.count ≤ 8 → length (values.put r) ≤ 68
+unfolding values
+values-most r h = simp length-append (omega (arith, be-length 4 r.count, flat-most value 8 value-length r.list r.count))
 
-pub answered-length : (h : Shape) (k t s b p n w : ℕ) (a : MaybeWord) (v : MaybeVote) (r : Values) → length r.list ≡ 8 → (h.values ≡ true → r.count ≤ 8)
-    → length (cat (answered_sections h k t s b p n w a v r)) ≡ (((4 + front_length h) + cost h.word 8) + cost h.prepared ((4 + cost (there a.some) 8) + (4 + cost (there v.some) 36))) + cost h.values (4 + r.count * 8)
-unfolding code
-answered-length h k t s b p n w a v r e m =
-    let x = when_length 0 u64 h.word w (λ _. be-length 8 w) in
-    let y = when_length (no_word, no_vote) prepared h.prepared (a, v) (λ _. prepared-length a v) in
-    let z = when_length no_values values h.values r (λ g. values_length r (omega (arith, m g))) in
-    simp length-append (omega (arith, be-length 4 k, front_length_lem h t s b p n))
+when-most : {A : Type 0} (d : A) (F : Form A) (b : Bool) (x : A) (n : ℕ) → (b ≡ true → length (F.put x) ≤ n) → length ((when d F b).put x) ≤ n
+when-most d F true x n e = e refl
+when-most d F false x n e = omega arith
+
+prepared-most : (a : MaybeWord) (v : MaybeVote) → length (prepared.put (a, v)) ≤ 52
+prepared-most a v =
+    let w = when-most 0 u64 (there a.some) a.word 8 (λ _. omega (arith, be-length 8 a.word)) in
+    let b = when-most 0 u32 (there v.some) v.ballot 4 (λ _. omega (arith, be-length 4 v.ballot)) in
+    let s = when-most no_set set4 (there v.some) v.set 32 (λ _. omega (arith, set-length v.set)) in
+    simp length-append (omega (arith, maybe-word-length a, maybe-vote-length v))
 
 -- no server, no promise and no count of what ran: eight bytes before the count of pieces
-pub asked_small : (k : ℕ) (h : Shape) → h ≡ asked_shape k → front_length h ≤ 8
+asked_small : (k : ℕ) (h : Shape) → h ≡ asked_shape k → front_length h ≤ 8
 asked_small k h e = rw e (omega (arith, cost_le (asked_shape k).ballot 4))
 
-pub few-values : (b : Bool) (n : ℕ) → (b ≡ true → n ≤ 8) → cost b (4 + n * 8) ≤ 68
-few-values true n h = omega (arith, h refl)
-few-values false n h = omega arith
+module _ (m : Message) where
+  abbrev pub front_of : Shape → List ℕ
+  front_of h = (front h).put ((((m.t, m.server), m.ballot), m.promise), m.ran)
+
+  abbrev pub bare_built : List (List ℕ)
+  bare_built = bare_sections m.code m.t
+
+  abbrev pub asked_built : Shape → List (List ℕ)
+  asked_built h = code.put m.code ∷ front_of h ∷ pieces.put m.pieces ∷ (when no_set set4 h.set).put m.set ∷ []
+
+  abbrev pub answered_built : Shape → List (List ℕ)
+  answered_built h = answered_sections h m.code m.t m.server m.ballot m.promise m.ran m.word m.arrival m.accepted m.values
+
+  pub bare-room : 0 + length (cat bare_built) ≤ 176
+  unfolding code
+  bare-room = simp (length-append, be-length) (omega arith)
+
+  pub asked-room : (h : Shape) → h ≡ asked_shape m.code → m.pieces.count ≤ 8 → 0 + length (cat (asked_built h)) ≤ 176
+  unfolding code
+  asked-room h e few =
+      let s = when-most no_set set4 h.set m.set 32 (λ _. omega (arith, set-length m.set)) in
+      simp length-append (omega (arith, be-length 4 m.code, front_length_lem h m.t m.server m.ballot m.promise m.ran, asked_small m.code h e, pieces-most m.pieces few))
+
+  pub answered-room : (h : Shape) → (h.values ≡ true → m.values.count ≤ 8) → 0 + length (cat (answered_built h)) ≤ 176
+  unfolding code
+  answered-room h few =
+      let x = when-most 0 u64 h.word m.word 8 (λ _. omega (arith, be-length 8 m.word)) in
+      let y = when-most (no_word, no_vote) prepared h.prepared (m.arrival, m.accepted) 52 (λ _. prepared-most m.arrival m.accepted) in
+      let z = when-most no_values values h.values m.values 68 (λ g. values-most m.values (few g)) in
+      let l₁ = cost_le h.server 4 in
+      let l₂ = cost_le h.ballot 4 in
+      let l₃ = cost_le h.promise 4 in
+      let l₄ = cost_le h.ran 4 in
+      simp length-append (omega (arith, be-length 4 m.code, front_length_lem h m.t m.server m.ballot m.promise m.ran))
+
+  -- what these have no server, promise and count of what ran
+  pub asked-same : (h : Shape) → h ≡ asked_shape m.code → cat (asked_built h) ≡ cat (asked_sections h m.code m.t m.ballot m.pieces.list m.pieces.count m.set)
+  unfolding front pieces
+  asked-same h e = rw e (simp (append-nil, append_assoc))
 
 -- ---- what is sent
 
-built_first : (s : List ℕ) {n : ℕ} {z₀ : List ℕ} {r : ℕ} {b : List ℕ} → length s ≡ n → Put 0 s z₀ r b → take n b ≡ s
+built_first : (s : List ℕ) {n : ℕ} {z₀ : List ℕ} {b : List ℕ} → Put 0 s z₀ n b → take n b ≡ s
 unfolding over
-built_first s {n} {z₀} l p = ap (take n) p.bytes ∙ take_at s (drop (length s) z₀) n l
+built_first s {n} {z₀} p = ap (take n) p.bytes ∙ take_at s (drop (length s) z₀) n (omega (arith, p.next))
 
-module _ (s z : List ℕ) {u : Bool} where
-  pub sent-12 : u ≡ true → refused 12 z ≡ sent u s z
+module _ (s z : List ℕ) where
+  pub sent-12 : {u : Bool} → u ≡ true → refused 12 z ≡ sent u s z
   unfolding sent
   sent-12 e = rw e
 
-  module _ {n : ℕ} (e : u ≡ false) (l : length s ≡ n) where
-    pub sent-14 : length z < n → refused 14 z ≡ sent u s z
+  module _ {n : ℕ} (l : length s ≡ n) where
+    pub sent-14 : length z < n → refused 14 z ≡ sent false s z
     unfolding sent
-    sent-14 h = rw (e, l, lt-ltb (length z) n h)
+    sent-14 h = rw (l, lt-ltb (length z) n h)
 
-    -- built in another buffer, and then copied
-    pub sent-all : n ≤ length z → {z₀ : List ℕ} {r : ℕ} {b z' : List ℕ} → Put 0 s z₀ r b → z' ≡ over (take n b) z → ◌≡◌ {A = Encoding} (record { refusal = 0; size = n; buffer = z' }) (sent u s z)
+    pub sent-all : n ≤ length z → {z' : List ℕ} → z' ≡ over s z → ◌≡◌ {A = Encoding} (record { refusal = 0; size = n; buffer = z' }) (sent false s z)
     unfolding sent
-    sent-all h p q =
-        let all = q ∙ ap (λ (x : List ℕ). over x z) (built_first s l p) in
-        rw (e, l, le-ltb (length z) n h, all)
+    sent-all h q = rw (l, le-ltb (length z) n h, q)
+
+  -- what was built is what is sent
+  pub sent-built : {u : Bool} → u ≡ false → {z₀ : List ℕ} {n : ℕ} {b : List ℕ} → Put 0 s z₀ n b → sent false (take n b) z ≡ sent u s z
+  sent-built e p = λ i. sent (sym e i) (built_first s p i) z
 
 -- ---- and the definition
 

@@ -1,12 +1,9 @@
 -- Sections written in a row, each in the part after the last, are written as one. Assumes nothing.
 use mathlib.Core.Path.{◌≡◌, sym, ap, ◌∙◌}
 use mathlib.Core.List.{List, [], ◌∷◌, ◌++◌, append_assoc, append-nil}
-use Prim.Native.Nat.{ℕ, zero, suc, ◌+◌, ◌≤◌, ◌<◌}
-use native.Mathlib.Nat.{zero-add}
-use native.Mathlib.Numerals.{add-one}
+use Prim.Native.Nat.{ℕ, zero, suc, ◌+◌, ◌^◌, ◌≤◌, ◌<◌}
 use native.Mathlib.Omega.{arith}
-use lib.Seq.{length-take-le, paste-suc}
-use lib.ListN.{length, take, set, get_or, replicate, length-append, length-take, length-drop}
+use lib.ListN.{length, take, get_or, replicate, length-append, length-take, length-drop}
 use Rattle.xdr.specs.Word.{be}
 use Rattle.xdr.specs.Form.{u32, when}
 use Rattle.xdr.specs.Over.{over, Put, put-none, put-put, room_right}
@@ -49,6 +46,12 @@ module _ (ss : List (List ℕ)) (at : ℕ) (z : List ℕ) (room : at + length (c
   pub section-put : (i : ℕ) → i < length ss → {a : ℕ} {z₁ : List ℕ} {r : ℕ} {z₂ : List ℕ} → Upto i a z₁ → Put a (get_or ss i []) z₁ r z₂ → Upto (suc i) r z₂
   section-put i h p q = rw (cat_more ss i h) (put-put at (cat (take i ss)) (get_or ss i []) z (room_for i) p q)
 
+-- what was built stands in the buffer
+pub built-fits : (ss : List (List ℕ)) → 0 + length (cat ss) ≤ 176 → {n : ℕ} {z : List ℕ} → Put 0 (cat ss) cleared n z → (n ≤ length z) × (n < 2 ^ 32)
+built-fits ss room p =
+    let l = same_size 0 (cat ss) cleared room p in
+    (omega (arith, p.next), omega (arith, p.next))
+
 -- ---- the front: T, server, ballot, promise and the count of what ran
 
 abbrev pub front_sections : Shape → (t s b p n : ℕ) → List (List ℕ)
@@ -57,11 +60,3 @@ front_sections h t s b p n = be 4 t ∷ (when 0 u32 h.server).put s ∷ (when 0 
 pub front_is : (h : Shape) (t s b p n : ℕ) → cat (front_sections h t s b p n) ≡ (front h).put ((((t, s), b), p), n)
 unfolding front
 front_is h t s b p n = simp (append-nil, append_assoc)
-
--- ---- one more element is copied to the front
-
-pub copy_more : (s z : List ℕ) (i : ℕ) → i < length z → i < length s → set (over (take i s) z) i (get_or s i 0) ≡ over (take (i + 1) s) z
-unfolding over
-copy_more s z i h k =
-    let e = paste-suc z 0 s i 0 (rw zero-add h) k in
-    rw (length-take-le i s (omega arith), length-take-le (i + 1) s (omega arith), add-one) (rw (zero-add, zero-add) at e)

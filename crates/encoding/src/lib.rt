@@ -1,23 +1,21 @@
-// A message, built by its sections in a cleared buffer, each in the part after the last, and then copied to the output. What is refused is known before.
+// A message, built by its sections in a cleared buffer, each in the part after the last, and then copied to the output. What is refused leaves the output as it was.
 #![tactic(auto)]
 
-ghost use Rattle.std.specs.Prelude.{◌≡◌, false, ◌&&◌, ◌+◌, ◌*◌, ◌≤◌, ltb, length, take};
-ghost use Rattle.xdr.specs.Over.{over, Put};
+ghost use Rattle.std.specs.Prelude.{◌≡◌, false, ◌&&◌, ◌+◌, ◌≤◌, ◌<◌, ◌^◌, ltb, length, take};
+ghost use Rattle.xdr.specs.Over.{Put};
 ghost use Rattle.xdr.proofs.Windows.{cost};
-ghost use Rattle.wire.specs.Bytes.{code};
 ghost use Rattle.encoding.specs.Sections.{front, front_length, cat};
 ghost use Rattle.encoding.specs.ByKind.{asked_shape, answered_shape, bare_sections, asked_sections, answered_sections};
-ghost use Rattle.encoding.specs.Answers.{answer, sent};
+ghost use Rattle.encoding.specs.Answers.{answer, sent, told_of};
 
 use crate::shapes::{answered_shape, asked_shape};
-use parts::put_arrays::{put_piece_list, put_values_if};
-use parts::put_parts::{put_prepared_if, put_set_if, put_u32_at, put_u32_if, put_u64_if};
-use rules::{MaybeVote, MaybeWord, Piece, Set, Values};
-use wire::Shape;
+use parts::item::{Item, put_if};
+use rules::refusals::Refusal;
+use wire::{Message, Shape};
 
 pub mod shapes; // shapes.rt: the kinds of messages
 
-// What encoding answers: the refusal or 0, and how many bytes the message takes, 0 on a refusal.
+// What a host is told: the refusal or 0, and how many bytes the message takes, 0 on a refusal.
 #[repr(C)]
 #[derive(Clone, Copy)]
 pub struct Encoded {
@@ -25,43 +23,30 @@ pub struct Encoded {
     pub length: u32,
 }
 
-// Why nothing is written: the code is unknown or a count is above 8; the output is shorter than the message.
-pub const UNWRITABLE: u32 = 12;
+impl From<Result<u32, Refusal>> for Encoded {
+    ghost from_gives = { λ r e. e ≡ told_of r };
 
-const SHORT: u32 = 14;
-
-pub fn refused(refusal: u32) -> Encoded
-    ensures { result ≡ record { refusal = refusal; length = 0 } }
-{
-    Encoded { refusal, length: 0 }
+    fn from(outcome: Result<u32, Refusal>) -> Encoded {
+        match outcome {
+            Ok(length) => Encoded { refusal: 0, length },
+            Err(refusal) => Encoded {
+                refusal: refusal.number(),
+                length: 0,
+            },
+        }
+    }
 }
 
-// The header is the code alone.
-fn put_header(out: &mut [u8], k: u32) -> usize
-    requires { 4 ≤ length out.old }
-    ensures { Put 0 (code.put k) out.old result out.new }
+// T, and what the shape has of server, ballot, promise and the count of what ran.
+fn put_front(out: &mut [u8], at: usize, h: Shape, m: &Message) -> usize
+    requires { at + length ((front h).put ((((m.now.t, m.now.server), m.now.ballot), m.now.promise), m.now.ran)) ≤ length out.old }
+    ensures { Put at ((front h).put ((((m.now.t, m.now.server), m.now.ballot), m.now.promise), m.now.ran)) out.old result out.new }
 {
-    put_u32_at(out, 0, k)
-}
-
-fn put_front(
-    out: &mut [u8],
-    at: usize,
-    h: Shape,
-    t: u32,
-    server: u32,
-    ballot: u32,
-    promise: u32,
-    ran: u32,
-) -> usize
-    requires { at + length ((front h).put ((((t, server), ballot), promise), ran)) ≤ length out.old }
-    ensures { Put at ((front h).put ((((t, server), ballot), promise), ran)) out.old result out.new }
-{
-    let a = put_u32_at(out, at, t);
-    let b = put_u32_if(out, a, h.server, server);
-    let c = put_u32_if(out, b, h.ballot, ballot);
-    let d = put_u32_if(out, c, h.promise, promise);
-    put_u32_if(out, d, h.ran, ran)
+    let a = xdr::put_u32(out, at, m.t);
+    let b = put_if(out, a, h.server, &m.server);
+    let c = put_if(out, b, h.ballot, &m.ballot);
+    let d = put_if(out, c, h.promise, &m.promise);
+    put_if(out, d, h.ran, &m.ran)
 }
 
 // n bytes, or none.
@@ -80,110 +65,60 @@ pub fn front_length(h: Shape) -> usize
     4 + cost(h.server, 4) + cost(h.ballot, 4) + cost(h.promise, 4) + cost(h.ran, 4)
 }
 
-// An optional word, and an optional ballot and set.
-fn prepared_length(arrived: bool, voted: bool) -> usize
-    ensures { (result ≡ (4 + cost arrived 8) + (4 + cost voted 36)) × (result ≤ 52) }
+// The first n bytes of what was built, at the front of the output, where it has room for them.
+fn send(out: &mut [u8], built: &[u8], n: usize) -> Result<u32, Refusal>
+    requires { (n ≤ length built.now) × (n < 2 ^ 32) }
+    ensures { (told_of result ≡ answer (sent false (take n built.now) out.old)) × (out.new ≡ (sent false (take n built.now) out.old).buffer) }
 {
-    (4 + cost(arrived, 8)) + (4 + cost(voted, 36))
-}
-
-fn copy_front(out: &mut [u8], s: &[u8], n: usize)
-    requires { (n ≤ length s.now) × (n ≤ length out.old) }
-    ensures { out.new ≡ over (take n s.now) out.old }
-{
-    let mut i = 0;
-    while i < n {
-        out[i] = s[i];
-        i += 1;
-    }
-}
-
-pub fn bare(out: &mut [u8], code: u32, t: u32) -> Encoded
-    ensures { (result ≡ answer (sent false (cat (bare_sections code t)) out.old)) × (out.new ≡ (sent false (cat (bare_sections code t)) out.old).buffer) }
-{
-    if out.len() < 8 {
-        return refused(SHORT);
-    }
-    let mut buffer = [0u8; 176];
-    let a = put_header(&mut buffer, code);
-    put_u32_at(&mut buffer, a, t);
-    copy_front(out, &buffer, 8);
-    Encoded {
-        refusal: 0,
-        length: 8,
-    }
-}
-
-pub fn asked(
-    out: &mut [u8],
-    code: u32,
-    t: u32,
-    ballot: u32,
-    list: [Piece; 8],
-    count: u32,
-    set: Set,
-) -> Encoded
-    ensures { (result ≡ answer (sent (ltb 8 count) (cat (asked_sections (asked_shape code) code t ballot list count set)) out.old))
-        × (out.new ≡ (sent (ltb 8 count) (cat (asked_sections (asked_shape code) code t ballot list count set)) out.old).buffer) }
-{
-    if 8 < count {
-        return refused(UNWRITABLE);
-    }
-    let h = asked_shape(code);
-    let k = count as usize;
-    let n = 4 + front_length(h) + (4 + k * 16) + cost(h.set, 32);
     if out.len() < n {
-        return refused(SHORT);
+        return Err(Refusal::NoRoom);
     }
-    let mut buffer = [0u8; 176];
-    let a = put_header(&mut buffer, code);
-    let b = put_front(&mut buffer, a, h, t, 0, ballot, 0, 0);
-    let c = put_u32_at(&mut buffer, b, count);
-    let d = put_piece_list(&mut buffer, c, list, k);
-    put_set_if(&mut buffer, d, h.set, set);
-    copy_front(out, &buffer, n);
-    let length = n as u32;
-    Encoded { refusal: 0, length }
+    out[..n].copy_from_slice(&built[..n]);
+    Ok(n as u32)
 }
 
-pub fn answered(
-    out: &mut [u8],
-    code: u32,
-    t: u32,
-    server: u32,
-    ballot: u32,
-    promise: u32,
-    ran: u32,
-    word: u64,
-    arrival: MaybeWord,
-    accepted: MaybeVote,
-    values: Values,
-) -> Encoded
-    ensures { (result ≡ answer (sent ((answered_shape code).values && ltb 8 values.count) (cat (answered_sections (answered_shape code) code t server ballot promise ran word arrival accepted values)) out.old))
-        × (out.new ≡ (sent ((answered_shape code).values && ltb 8 values.count) (cat (answered_sections (answered_shape code) code t server ballot promise ran word arrival accepted values)) out.old).buffer) }
+// A code and T alone.
+pub fn bare(out: &mut [u8], m: &Message) -> Result<u32, Refusal>
+    ensures { (told_of result ≡ answer (sent false (cat (bare_sections m.now.code m.now.t)) out.old))
+        × (out.new ≡ (sent false (cat (bare_sections m.now.code m.now.t)) out.old).buffer) }
 {
-    let h = answered_shape(code);
-    let unwritable = h.values & (8 < values.count);
-    if unwritable {
-        return refused(UNWRITABLE);
+    let mut buffer = [0u8; 176];
+    let a = xdr::put_u32(&mut buffer, 0, m.code);
+    let n = xdr::put_u32(&mut buffer, a, m.t);
+    send(out, &buffer, n)
+}
+
+// Pieces, and a ballot before them, a set after them or both.
+pub fn asked(out: &mut [u8], m: &Message) -> Result<u32, Refusal>
+    ensures { (told_of result ≡ answer (sent (ltb 8 m.now.pieces.count) (cat (asked_sections (asked_shape m.now.code) m.now.code m.now.t m.now.ballot m.now.pieces.list m.now.pieces.count m.now.set)) out.old))
+        × (out.new ≡ (sent (ltb 8 m.now.pieces.count) (cat (asked_sections (asked_shape m.now.code) m.now.code m.now.t m.now.ballot m.now.pieces.list m.now.pieces.count m.now.set)) out.old).buffer) }
+{
+    if 8 < m.pieces.count {
+        return Err(Refusal::Unknown);
     }
-    let k = values.count as usize;
-    let prepared = prepared_length(arrival.some != 0, accepted.some != 0);
-    let n = 4
-        + front_length(h)
-        + cost(h.word, 8)
-        + cost(h.prepared, prepared)
-        + cost(h.values, 4 + k * 8);
-    if out.len() < n {
-        return refused(SHORT);
+    let h = asked_shape(m.code);
+    let mut buffer = [0u8; 176];
+    let a = xdr::put_u32(&mut buffer, 0, m.code);
+    let b = put_front(&mut buffer, a, h, m);
+    let c = m.pieces.put(&mut buffer, b);
+    let n = put_if(&mut buffer, c, h.set, &m.set);
+    send(out, &buffer, n)
+}
+
+// A server, and what it answers.
+pub fn answered(out: &mut [u8], m: &Message) -> Result<u32, Refusal>
+    ensures { (told_of result ≡ answer (sent ((answered_shape m.now.code).values && ltb 8 m.now.values.count) (cat (answered_sections (answered_shape m.now.code) m.now.code m.now.t m.now.server m.now.ballot m.now.promise m.now.ran m.now.word m.now.arrival m.now.accepted m.now.values)) out.old))
+        × (out.new ≡ (sent ((answered_shape m.now.code).values && ltb 8 m.now.values.count) (cat (answered_sections (answered_shape m.now.code) m.now.code m.now.t m.now.server m.now.ballot m.now.promise m.now.ran m.now.word m.now.arrival m.now.accepted m.now.values)) out.old).buffer) }
+{
+    let h = answered_shape(m.code);
+    if h.values & (8 < m.values.count) {
+        return Err(Refusal::Unknown);
     }
     let mut buffer = [0u8; 176];
-    let a = put_header(&mut buffer, code);
-    let b = put_front(&mut buffer, a, h, t, server, ballot, promise, ran);
-    let c = put_u64_if(&mut buffer, b, h.word, word);
-    let d = put_prepared_if(&mut buffer, c, h.prepared, arrival, accepted);
-    put_values_if(&mut buffer, d, h.values, values);
-    copy_front(out, &buffer, n);
-    let length = n as u32;
-    Encoded { refusal: 0, length }
+    let a = xdr::put_u32(&mut buffer, 0, m.code);
+    let b = put_front(&mut buffer, a, h, m);
+    let c = put_if(&mut buffer, b, h.word, &m.word);
+    let d = put_if(&mut buffer, c, h.prepared, &(m.arrival, m.accepted));
+    let n = put_if(&mut buffer, d, h.values, &m.values);
+    send(out, &buffer, n)
 }

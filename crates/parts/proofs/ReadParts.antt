@@ -5,13 +5,16 @@ use mathlib.Core.Bool.{Bool, true, false}
 use mathlib.Core.List.{List}
 use Prim.Native.Nat.{ℕ}
 use lib.IntN.{ℤ}
-use Rattle.xdr.specs.Form.{u32, u64, int, flag as bool, ◌then◌, when}
+use Rattle.xdr.specs.Form.{u32, u64, int, flag as bool, count, ◌then◌, when}
+use Rattle.xdr.specs.Array.{Filled, filled-rows}
+use Rattle.rules.specs.declared.Piece.{Piece}
+use Rattle.rules.specs.Pieces.{no_piece}
 use Rattle.xdr.specs.Reading.{Reads, reads_then, reads_by}
 use Rattle.xdr.specs.declared.Cursor.{Cursor}
 use Rattle.rules.specs.declared.Set.{Set}
 use Rattle.rules.specs.Flags.{flag}
 use Rattle.rules.specs.Sets.{no_set}
-use Rattle.wire.specs.Parts.{set4, value, maybe_word, maybe_vote}
+use Rattle.wire.specs.Parts.{pieces, piece, set4, value, maybe_word, maybe_vote}
 
 -- a flag as a number
 pub told : (b : Bool) → from_bool b ≡ flag b
@@ -19,6 +22,12 @@ told true = refl
 told false = refl
 
 module _ (s : List ℕ) (c : Cursor) where
+  pub pieces-read : {n : ℕ} {k : Cursor} {l : List Piece} {cur : Cursor} → Reads count s c n k → Filled piece no_piece s k n l cur → Reads pieces s c (record { list = l; count = n }) cur
+  unfolding pieces
+  pieces-read p f =
+      let r = filled-rows piece no_piece s c p f in
+      record { value = ap (λ (q : ℕ × List Piece). record { list = q.1; count = q.0 }) r.value; next = r.next }
+
   pub value_read : {z : ℤ} {k : Cursor} {b : Bool} {l : Cursor} {m : ℕ} → Reads int s c z k → Reads bool s k b l → m ≡ flag b → Reads value s c (record { value = z; kept = m }) l
   unfolding value
   value_read {z = z} p q e =

@@ -2,7 +2,7 @@
 use Rattle.codec.proofs.decode.Goals as goal
 
 pub read_asked-requires : goal.read_asked-requires
-read_asked-requires c = c.see_asked-a.ensures c.if-a.true
+read_asked-requires c = c.in-Some.ensures
 
 pub read_answered-requires : goal.read_answered-requires
-read_answered-requires c = c.see_answered-b.ensures c.if-b.true
+read_answered-requires c = c.in-Some-see_answered.ensures

@@ -7,59 +7,65 @@ use Rattle.encoding.specs.Sections.{cat}
 use Rattle.encoding.proofs.WriteWhole.{none-put, section-room, section-put, front_sections, front_is}
 use Rattle.encoding.proofs.put_front.Goals as goal
 
-pub put_u32_at-a-requires : goal.put_u32_at-a-requires
-put_u32_at-a-requires c =
+pub put_u32-a-requires : goal.put_u32-a-requires
+put_u32-a-requires c =
     let a = c.args in
-    let ss = front_sections a.h a.t a.server a.ballot a.promise a.ran in
-    let room : a.at + length (cat ss) ≤ length a.out.now = rw (front_is a.h a.t a.server a.ballot a.promise a.ran) c.requires in
-    rw (be-length 4 a.t) at (section-room ss a.at a.out.now room 0 (lit< tt) (none-put ss a.at a.out.now room))
+    let m = a.m.now in
+    let ss = front_sections a.h m.t m.server m.ballot m.promise m.ran in
+    let room : a.at + length (cat ss) ≤ length a.out.now = rw (front_is a.h m.t m.server m.ballot m.promise m.ran) c.requires in
+    rw (be-length 4 m.t) at (section-room ss a.at a.out.now room 0 (lit< tt) (none-put ss a.at a.out.now room))
 
-pub put_u32_if-b-requires : goal.put_u32_if-b-requires
-put_u32_if-b-requires c =
+pub put_if-b-requires : goal.put_if-b-requires
+put_if-b-requires c =
     let a = c.args in
-    let ss = front_sections a.h a.t a.server a.ballot a.promise a.ran in
-    let room : a.at + length (cat ss) ≤ length a.out.now = rw (front_is a.h a.t a.server a.ballot a.promise a.ran) c.requires in
-    let p₁ = section-put ss a.at a.out.now room 0 (lit< tt) (none-put ss a.at a.out.now room) c.put_u32_at-a.ensures in
+    let m = a.m.now in
+    let ss = front_sections a.h m.t m.server m.ballot m.promise m.ran in
+    let room : a.at + length (cat ss) ≤ length a.out.now = rw (front_is a.h m.t m.server m.ballot m.promise m.ran) c.requires in
+    let p₁ = section-put ss a.at a.out.now room 0 (lit< tt) (none-put ss a.at a.out.now room) c.put_u32-a.ensures in
     section-room ss a.at a.out.now room 1 (lit< tt) p₁
 
-pub put_u32_if-c-requires : goal.put_u32_if-c-requires
-put_u32_if-c-requires c =
+pub put_if-c-requires : goal.put_if-c-requires
+put_if-c-requires c =
     let a = c.args in
-    let ss = front_sections a.h a.t a.server a.ballot a.promise a.ran in
-    let room : a.at + length (cat ss) ≤ length a.out.now = rw (front_is a.h a.t a.server a.ballot a.promise a.ran) c.requires in
-    let p₁ = section-put ss a.at a.out.now room 0 (lit< tt) (none-put ss a.at a.out.now room) c.put_u32_at-a.ensures in
-    let p₂ = section-put ss a.at a.out.now room 1 (lit< tt) p₁ c.put_u32_if-b.ensures in
+    let m = a.m.now in
+    let ss = front_sections a.h m.t m.server m.ballot m.promise m.ran in
+    let room : a.at + length (cat ss) ≤ length a.out.now = rw (front_is a.h m.t m.server m.ballot m.promise m.ran) c.requires in
+    let p₁ = section-put ss a.at a.out.now room 0 (lit< tt) (none-put ss a.at a.out.now room) c.put_u32-a.ensures in
+    let p₂ = section-put ss a.at a.out.now room 1 (lit< tt) p₁ c.put_if-b.ensures in
     section-room ss a.at a.out.now room 2 (lit< tt) p₂
 
-pub put_u32_if-d-requires : goal.put_u32_if-d-requires
-put_u32_if-d-requires c =
+pub put_if-d-requires : goal.put_if-d-requires
+put_if-d-requires c =
     let a = c.args in
-    let ss = front_sections a.h a.t a.server a.ballot a.promise a.ran in
-    let room : a.at + length (cat ss) ≤ length a.out.now = rw (front_is a.h a.t a.server a.ballot a.promise a.ran) c.requires in
-    let p₁ = section-put ss a.at a.out.now room 0 (lit< tt) (none-put ss a.at a.out.now room) c.put_u32_at-a.ensures in
-    let p₂ = section-put ss a.at a.out.now room 1 (lit< tt) p₁ c.put_u32_if-b.ensures in
-    let p₃ = section-put ss a.at a.out.now room 2 (lit< tt) p₂ c.put_u32_if-c.ensures in
+    let m = a.m.now in
+    let ss = front_sections a.h m.t m.server m.ballot m.promise m.ran in
+    let room : a.at + length (cat ss) ≤ length a.out.now = rw (front_is a.h m.t m.server m.ballot m.promise m.ran) c.requires in
+    let p₁ = section-put ss a.at a.out.now room 0 (lit< tt) (none-put ss a.at a.out.now room) c.put_u32-a.ensures in
+    let p₂ = section-put ss a.at a.out.now room 1 (lit< tt) p₁ c.put_if-b.ensures in
+    let p₃ = section-put ss a.at a.out.now room 2 (lit< tt) p₂ c.put_if-c.ensures in
     section-room ss a.at a.out.now room 3 (lit< tt) p₃
 
-pub put_u32_if-requires : goal.put_u32_if-requires
-put_u32_if-requires c =
+pub put_if-requires : goal.put_if-requires
+put_if-requires c =
     let a = c.args in
-    let ss = front_sections a.h a.t a.server a.ballot a.promise a.ran in
-    let room : a.at + length (cat ss) ≤ length a.out.now = rw (front_is a.h a.t a.server a.ballot a.promise a.ran) c.requires in
-    let p₁ = section-put ss a.at a.out.now room 0 (lit< tt) (none-put ss a.at a.out.now room) c.put_u32_at-a.ensures in
-    let p₂ = section-put ss a.at a.out.now room 1 (lit< tt) p₁ c.put_u32_if-b.ensures in
-    let p₃ = section-put ss a.at a.out.now room 2 (lit< tt) p₂ c.put_u32_if-c.ensures in
-    let p₄ = section-put ss a.at a.out.now room 3 (lit< tt) p₃ c.put_u32_if-d.ensures in
+    let m = a.m.now in
+    let ss = front_sections a.h m.t m.server m.ballot m.promise m.ran in
+    let room : a.at + length (cat ss) ≤ length a.out.now = rw (front_is a.h m.t m.server m.ballot m.promise m.ran) c.requires in
+    let p₁ = section-put ss a.at a.out.now room 0 (lit< tt) (none-put ss a.at a.out.now room) c.put_u32-a.ensures in
+    let p₂ = section-put ss a.at a.out.now room 1 (lit< tt) p₁ c.put_if-b.ensures in
+    let p₃ = section-put ss a.at a.out.now room 2 (lit< tt) p₂ c.put_if-c.ensures in
+    let p₄ = section-put ss a.at a.out.now room 3 (lit< tt) p₃ c.put_if-d.ensures in
     section-room ss a.at a.out.now room 4 (lit< tt) p₄
 
 pub returns : goal.returns
 returns c =
     let a = c.args in
-    let ss = front_sections a.h a.t a.server a.ballot a.promise a.ran in
-    let room : a.at + length (cat ss) ≤ length a.out.now = rw (front_is a.h a.t a.server a.ballot a.promise a.ran) c.requires in
-    let p₁ = section-put ss a.at a.out.now room 0 (lit< tt) (none-put ss a.at a.out.now room) c.put_u32_at-a.ensures in
-    let p₂ = section-put ss a.at a.out.now room 1 (lit< tt) p₁ c.put_u32_if-b.ensures in
-    let p₃ = section-put ss a.at a.out.now room 2 (lit< tt) p₂ c.put_u32_if-c.ensures in
-    let p₄ = section-put ss a.at a.out.now room 3 (lit< tt) p₃ c.put_u32_if-d.ensures in
-    let p₅ = section-put ss a.at a.out.now room 4 (lit< tt) p₄ c.put_u32_if.ensures in
-    rw (front_is a.h a.t a.server a.ballot a.promise a.ran) at p₅
+    let m = a.m.now in
+    let ss = front_sections a.h m.t m.server m.ballot m.promise m.ran in
+    let room : a.at + length (cat ss) ≤ length a.out.now = rw (front_is a.h m.t m.server m.ballot m.promise m.ran) c.requires in
+    let p₁ = section-put ss a.at a.out.now room 0 (lit< tt) (none-put ss a.at a.out.now room) c.put_u32-a.ensures in
+    let p₂ = section-put ss a.at a.out.now room 1 (lit< tt) p₁ c.put_if-b.ensures in
+    let p₃ = section-put ss a.at a.out.now room 2 (lit< tt) p₂ c.put_if-c.ensures in
+    let p₄ = section-put ss a.at a.out.now room 3 (lit< tt) p₃ c.put_if-d.ensures in
+    let p₅ = section-put ss a.at a.out.now room 4 (lit< tt) p₄ c.put_if.ensures in
+    rw (front_is a.h m.t m.server m.ballot m.promise m.ran) at p₅

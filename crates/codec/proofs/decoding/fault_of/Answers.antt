@@ -4,4 +4,4 @@ use Rattle.xdr.specs.declared.Cursor.{Cursor}
 use Rattle.codec.proofs.decoding.fault_of.Goals as goal
 
 pub returns : goal.returns
-returns c = ap (λ (k : Cursor). k.fault) c.judge-e.ensures
+returns c = ap (λ (k : Cursor). k.fault) c.judge.ensures

@@ -3,4 +3,4 @@ use Rattle.codec.proofs.ReadWhole.{front_read}
 use Rattle.codec.proofs.decoding.get_front.Goals as goal
 
 pub returns : goal.returns
-returns c = front_read _ _ _ c.get_u32-t.ensures c.get_u32_if-server.ensures c.get_u32_if-ballot.ensures c.get_u32_if-promise.ensures c.get_u32_if-ran.ensures
+returns c = front_read _ _ _ c.get_u32-t.ensures c.get_if-server.ensures c.get_if-ballot.ensures c.get_if-promise.ensures c.get_if-ran.ensures

@@ -1,40 +1,50 @@
--- The entries so far are read, and blank ones stand behind them. Assumes nothing.
-use mathlib.Core.Path.{◌≡◌, refl}
-use native.Mathlib.Omega.{arith}
-use Rattle.xdr.specs.Array.{filled_more}
-use Rattle.rules.specs.Pieces.{no_piece}
+-- One more entry is read, and blank ones stand behind them. Assumes nothing.
+use Rattle.std.proofs.Common.{◌≡◌, ℕ, ◌≤◌, refl, sym, ap, ◌∙◌, ◌+◌, ◌-◌, ◌<◌, ◌++◌, length, take, replicate, arith, length-take-le}
+use Rattle.std.proofs.lemmas.List.{drop-replicate, take_all}
+use Rattle.std.proofs.Math.Nat.{mul-le-mul_right}
+use Rattle.xdr.specs.Reading.{clean}
+use Rattle.rules.specs.declared.Piece.{Piece}
 use Rattle.wire.specs.Parts.{piece}
+use Rattle.parts.proofs.Items.{got-more}
 use Rattle.codec.proofs.exact.list_at.Goals as goal
 
-pub loop-i-init : goal.loop-i-init
-loop-i-init c = (omega arith, omega arith, (refl, refl))
+pub loop-entry-init : goal.loop-entry-init
+loop-entry-init c = (omega arith, (refl, refl))
 
-pub piece_at-p-requires : goal.piece_at-p-requires
-piece_at-p-requires c = omega arith
+-- as many entries as were lent
+lent : (n : ℕ) (b : Piece) → n ≤ 8 → length (take n (replicate 8 b)) ≡ n
+lent n b h = length-take-le n (replicate 8 b) h
 
-pub offset_bounds-v-i : goal.offset_bounds-v-i
-offset_bounds-v-i c = omega arith
+pub at-requires : goal.at-requires
+at-requires c =
+    let l = c.loop-entry in
+    let few = lent c.args.n c.blank-list.result c.requires.0 in
+    let i : l.entry-index < c.args.n = omega arith in
+    let m = mul-le-mul_right 16 i in
+    omega (arith, l.invariant.0)
 
-pub bounds-v-i : goal.bounds-v-i
-bounds-v-i c = omega arith
+pub overflow_add-next : goal.overflow_add-next
+overflow_add-next c =
+    let l = c.loop-entry in
+    let few = lent c.args.n c.blank-list.result c.requires.0 in
+    let i : l.entry-index < c.args.n = omega arith in
+    omega (arith, l.invariant.0)
 
-pub overflow_add-a : goal.overflow_add-a
-overflow_add-a c = omega arith
-
-pub overflow_add-i : goal.overflow_add-i
-overflow_add-i c = omega arith
-
-pub loop-i-smaller : goal.loop-i-smaller
-loop-i-smaller c = omega arith
-
-pub loop-i-preserved : goal.loop-i-preserved
-loop-i-preserved c =
-    let g = c.piece_at-p in
-    let inv = c.loop-i.invariant in
-    (omega arith, omega arith, filled_more piece no_piece _ _ _ _ _ _ _ (omega arith) inv.2 g.ensures.value g.ensures.next)
+pub loop-entry-preserved : goal.loop-entry-preserved
+loop-entry-preserved c =
+    let l = c.loop-entry in
+    let e = c.at.ensures in
+    (omega (arith, l.invariant.0), got-more piece c.args.s.now (clean c.args.at) l.entry-index l.entry-items (clean l.next) c.at.result (clean (l.next + 16)) (omega arith) l.invariant.1 e.value e.next)
 
 pub returns : goal.returns
 returns c =
-    let l = c.loop-i in
-    let e : l.i ≡ c.args.n = omega arith in
-    (rw (← e) l.invariant.2.0, rw (← e, ← l.invariant.1) l.invariant.2.1)
+    let l = c.loop-entry in
+    let n = c.args.n in
+    let b = c.blank-list.result in
+    let few = lent n b c.requires.0 in
+    let all : length l.entry-items ≡ n = l.auto.entry-items ∙ few in
+    let e : l.entry-index ≡ n = omega arith in
+    let whole : take l.entry-index l.entry-items ≡ l.entry-items = take_all l.entry-index l.entry-items (omega arith) in
+    let read = rw (whole, e) at l.invariant.1 in
+    let behind = drop-replicate n 8 b ∙ ap (replicate (8 - n)) c.blank-list.ensures in
+    ((λ i. read.0 i ++ behind i), ap clean (sym (rw e at l.invariant.0)) ∙ read.1)

@@ -1,14 +1,9 @@
--- The entries so far are read, and blank ones stand behind them. Assumes nothing.
-use mathlib.Core.Path.{◌≡◌}
-use Prim.Native.Nat.{◌+◌, ◌*◌, ◌≤◌, ◌-◌}
-use Rattle.xdr.specs.Array.{Filled}
+-- The entries so far are read. Assumes nothing.
+use Rattle.std.proofs.Common.{◌≡◌, ◌+◌, ◌*◌}
 use Rattle.xdr.specs.Reading.{clean}
-use Rattle.rules.specs.Pieces.{no_piece}
 use Rattle.wire.specs.Parts.{piece}
+use Rattle.parts.proofs.Items.{Got}
 use Rattle.codec.proofs.exact.list_at.Given as goal
 
-abbrev pub invariant-loop-i : goal.invariant-loop-i
-invariant-loop-i l = (l.i ≤ l.n) × (l.a ≡ l.at + l.i * 16) × Filled piece no_piece l.s (clean l.at) l.i l.v (clean l.a)
-
-abbrev pub decreases-loop-i : goal.decreases-loop-i
-decreases-loop-i l = l.n - l.i
+abbrev pub invariant-loop-entry : goal.invariant-loop-entry
+invariant-loop-entry l = (l.next ≡ l.at + l.entry-index * 16) × Got piece l.s (clean l.at) l.entry-index l.entry-items (clean l.next)

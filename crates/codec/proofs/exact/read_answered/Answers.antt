@@ -3,23 +3,23 @@ use native.Mathlib.Omega.{arith}
 use Rattle.codec.proofs.ReadExact.{answered-decoded}
 use Rattle.codec.proofs.exact.read_answered.Goals as goal
 
-pub word_if-ballot-requires : goal.word_if-ballot-requires
-word_if-ballot-requires c =
+pub at_if-ballot-requires : goal.at_if-ballot-requires
+at_if-ballot-requires c =
     let x = c.requires in
     let s = c.answered_shape-h.ensures in
     let long = x.exact in
     rw s (omega arith)
 
-pub word_if-promise-requires : goal.word_if-promise-requires
-word_if-promise-requires c =
+pub at_if-promise-requires : goal.at_if-promise-requires
+at_if-promise-requires c =
     let x = c.requires in
     let s = c.answered_shape-h.ensures in
     let long = x.exact in
     let b = rw s at c.cost-b.ensures.0 in
     rw s (omega arith)
 
-pub word_if-ran-requires : goal.word_if-ran-requires
-word_if-ran-requires c =
+pub at_if-ran-requires : goal.at_if-ran-requires
+at_if-ran-requires c =
     let x = c.requires in
     let s = c.answered_shape-h.ensures in
     let long = x.exact in
@@ -27,8 +27,8 @@ word_if-ran-requires c =
     let p = rw s at c.cost.ensures.0 in
     rw s (omega arith)
 
-pub hyper_if-word-requires : goal.hyper_if-word-requires
-hyper_if-word-requires c =
+pub at_if-word-requires : goal.at_if-word-requires
+at_if-word-requires c =
     let x = c.requires in
     let s = c.answered_shape-h.ensures in
     let long = x.exact in
@@ -45,5 +45,5 @@ returns c =
     let b = rw s at c.cost-b.ensures.0 in
     let p = rw s at c.cost.ensures.0 in
     let n = rw s at c.cost-2.ensures.0 in
-    let d = answered-decoded _ x c.word_at-t.ensures c.word_at-server.ensures (rw s at c.word_if-ballot.ensures) (rw (s, b) at c.word_if-promise.ensures) (rw (s, b, p) at c.word_if-ran.ensures) (rw (s, b, p, n) at c.hyper_if-word.ensures) in
+    let d = answered-decoded _ x c.word_at-t.ensures c.word_at-server.ensures (rw s at c.at_if-ballot.ensures) (rw (s, b) at c.at_if-promise.ensures) (rw (s, b, p) at c.at_if-ran.ensures) (rw (s, b, p, n) at c.at_if-word.ensures) in
     rw c.plain-message.ensures d

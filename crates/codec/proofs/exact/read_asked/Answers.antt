@@ -10,8 +10,8 @@ word_at-t-requires c =
     let place = x.place in
     omega arith
 
-pub word_if-ballot-requires : goal.word_if-ballot-requires
-word_if-ballot-requires c =
+pub at_if-ballot-requires : goal.at_if-ballot-requires
+at_if-ballot-requires c =
     let x = c.requires in
     let long = x.exact in
     let place = x.place in
@@ -25,8 +25,8 @@ list_at-list-requires c =
     let place = x.place in
     (x.few, omega arith)
 
-pub set_if-set-requires : goal.set_if-set-requires
-set_if-set-requires c =
+pub at_if-set-requires : goal.at_if-set-requires
+at_if-set-requires c =
     let x = c.requires in
     let long = x.exact in
     let place = x.place in
@@ -39,5 +39,5 @@ returns c =
     let long = x.exact in
     let place = x.place in
     let s = c.asked_shape-h.ensures in
-    let d = asked-decoded _ x c.word_at-t.ensures (rw s at c.word_if-ballot.ensures) c.list_at-list.ensures (rw s at c.set_if-set.ensures) in
+    let d = asked-decoded _ x c.word_at-t.ensures (rw s at c.at_if-ballot.ensures) c.list_at-list.ensures (rw s at c.at_if-set.ensures) in
     rw c.plain-message.ensures d

@@ -12,4 +12,4 @@ pub word_at-t-requires : goal.word_at-t-requires
 word_at-t-requires c = omega (arith, bare-long c.args.bytes.now c.requires)
 
 pub returns : goal.returns
-returns c = ap (λ (m : Message). record { refusal = 0; message = m }) c.plain-message.ensures ∙ bare-decoded _ c.requires c.word_at-code.ensures c.word_at-t.ensures
+returns c = ap (λ (m : Message). record { refusal = 0; message = m }) c.plain.ensures ∙ bare-decoded _ c.requires c.word_at-code.ensures c.word_at-t.ensures

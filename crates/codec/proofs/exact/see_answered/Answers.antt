@@ -1,6 +1,6 @@
 -- The tests are what is exact. Assumes nothing.
 use mathlib.Core.Path.{◌≡◌, sym, ap, ◌∙◌}
-use mathlib.Core.Bool.{not, ◌&&◌, ◌||◌, false≢true}
+use mathlib.Core.Bool.{not, ◌&&◌, ◌||◌}
 use Prim.Native.Nat.{◌+◌}
 use native.Mathlib.Omega.{arith}
 use lib.Dec.{eqb}
@@ -11,16 +11,10 @@ use Rattle.xdr.proofs.Windows.{cost}
 use Rattle.wire.specs.declared.Shape.{Shape}
 use Rattle.encoding.specs.Sections.{front_length}
 use Rattle.encoding.specs.ByKind.{answered_shape}
-use borrow.Author.Tests.{eqb-true}
-use Rattle.masks.proofs.Bools.{and_yes-l, and_yes_r, not_yes, or_no_l, or_no_r}
-use Rattle.wire.specs.declared.Shape.{Shape}
 use Rattle.codec.proofs.exact.see_answered.Goals as goal
 
-pub returns-then-n-lt12 : goal.returns-then-n-lt12
-returns-then-n-lt12 c = λ e. absurd (false≢true e)
-
-pub returns : goal.returns
-returns c =
+pub returns-then-answered-other : goal.returns-then-answered-other
+returns-then-answered-other c =
     let k = c.word_at-code.result in
     let h = c.answered_shape-h.result in
     let s = c.answered_shape-h.ensures in
@@ -29,7 +23,7 @@ returns c =
     let w = c.cost in
     let long = length c.args.bytes.now in
     let sum = (4 + f.result) + w.result in
-    λ e.
+    let e = c.if-answered-other.true in
     let f' : f.result ≡ front_length (answered_shape k) = rw s at f.ensures.0 in
     let w' : w.result ≡ cost (answered_shape k).word 8 = rw s at w.ensures.0 in
     let other = (a.result || h.prepared) || h.values in
