@@ -75,14 +75,14 @@ fn at_if<T: Fixed>(s: &[u8], at: usize, has: bool) -> T
     if has {
         return T::at(s, at);
     }
-    T::blank()
+    T::default()
 }
 
 fn list_at(s: &[u8], at: usize, n: usize) -> [Piece; 8]
     requires { (n ≤ 8) × (at + n * 16 ≤ length s.now) }
     ensures { (result ≡ (many-get piece n s.now (clean at)).v ++ replicate (8 - n) no_piece) × (clean (at + n * 16) ≡ (many-get piece n s.now (clean at)).next) }
 {
-    let mut list = [Piece::blank(); 8];
+    let mut list = [Piece::default(); 8];
     let mut next = at;
     for entry in &mut list[..n] {
         *entry = Piece::at(s, next);
@@ -146,10 +146,10 @@ pub fn read_asked(bytes: &[u8], seen: Asked) -> Decoded
 {
     let t = word_at(bytes, 4);
     let h = asked_shape(seen.code);
-    let ballot = at_if(bytes, 8, h.ballot);
+    let ballot = at_if::<u32>(bytes, 8, h.ballot);
     let k = seen.count as usize;
     let list = list_at(bytes, seen.at + 4, k);
-    let set = at_if(bytes, seen.at + (4 + k * 16), h.set);
+    let set = at_if::<Set>(bytes, seen.at + (4 + k * 16), h.set);
     let mut message = plain(seen.code, t, 0, ballot, 0);
     message.pieces = Pieces {
         list,
@@ -187,13 +187,13 @@ pub fn read_answered(bytes: &[u8], code: u32) -> Decoded
     let t = word_at(bytes, 4);
     let server = word_at(bytes, 8);
     let h = answered_shape(code);
-    let ballot = at_if(bytes, 12, h.ballot);
+    let ballot = at_if::<u32>(bytes, 12, h.ballot);
     let b = 12 + cost(h.ballot, 4);
-    let promise = at_if(bytes, b, h.promise);
+    let promise = at_if::<u32>(bytes, b, h.promise);
     let p = b + cost(h.promise, 4);
-    let ran = at_if(bytes, p, h.ran);
+    let ran = at_if::<u32>(bytes, p, h.ran);
     let n = p + cost(h.ran, 4);
-    let word = at_if(bytes, n, h.word);
+    let word = at_if::<u64>(bytes, n, h.word);
     let mut message = plain(code, t, server, ballot, promise);
     message.word = word;
     message.ran = ran;

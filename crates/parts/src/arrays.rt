@@ -1,7 +1,9 @@
 // Pieces and values, and the arrays of them: blank entries stand behind those that are used.
 ghost use Rattle.std.specs.Prelude.{◌≡◌};
+ghost use Rattle.std.proofs.Common.{rules};
 ghost use Rattle.rules.specs.Pieces.{no_piece, no_pieces};
 ghost use Rattle.rules.specs.Values.{no_value, no_values};
+ghost use Rattle.parts.specs.Defaults.{pieces_blank, values_blank};
 ghost use Rattle.wire.specs.Parts.{piece, pieces, value, values};
 
 use crate::item::{Item, get_rows, put_rows};
@@ -12,15 +14,6 @@ impl Item for Piece {
     ghost form = { piece };
 
     ghost blank = { no_piece };
-
-    fn blank() -> Piece {
-        Piece {
-            shard: 0,
-            key: 0,
-            kind: 0,
-            operand: 0,
-        }
-    }
 
     fn get(s: &[u8], c: Cursor) -> Got<Piece> {
         let shard = xdr::get_u32(s, c);
@@ -46,6 +39,8 @@ impl Item for Piece {
         let c = xdr::put_u32(out, b, p.kind);
         xdr::put_i32(out, c, p.operand)
     }
+
+    ghost defaults = { Prim.search rules };
 }
 
 impl Item for Pieces {
@@ -53,15 +48,8 @@ impl Item for Pieces {
 
     ghost blank = { no_pieces };
 
-    fn blank() -> Pieces {
-        Pieces {
-            list: [Piece::blank(); 8],
-            count: 0,
-        }
-    }
-
     fn get(s: &[u8], c: Cursor) -> Got<Pieces> {
-        let mut list = [Piece::blank(); 8];
+        let mut list = [Piece::default(); 8];
         let count = get_rows(s, c, &mut list);
         let v = Pieces {
             list,
@@ -76,16 +64,14 @@ impl Item for Pieces {
     fn put(&self, out: &mut [u8], at: usize) -> usize {
         put_rows(out, at, self.count, &self.list)
     }
+
+    ghost defaults = { pieces_blank (Prim.search rules) };
 }
 
 impl Item for Value {
     ghost form = { value };
 
     ghost blank = { no_value };
-
-    fn blank() -> Value {
-        Value { value: 0, kept: 0 }
-    }
 
     fn get(s: &[u8], c: Cursor) -> Got<Value> {
         let value = xdr::get_i32(s, c);
@@ -102,6 +88,8 @@ impl Item for Value {
         let a = xdr::put_i32(out, at, v.value);
         xdr::put_bool(out, a, v.kept != 0)
     }
+
+    ghost defaults = { Prim.search rules };
 }
 
 impl Item for Values {
@@ -109,15 +97,8 @@ impl Item for Values {
 
     ghost blank = { no_values };
 
-    fn blank() -> Values {
-        Values {
-            list: [Value::blank(); 8],
-            count: 0,
-        }
-    }
-
     fn get(s: &[u8], c: Cursor) -> Got<Values> {
-        let mut list = [Value::blank(); 8];
+        let mut list = [Value::default(); 8];
         let count = get_rows(s, c, &mut list);
         let v = Values {
             list,
@@ -132,4 +113,6 @@ impl Item for Values {
     fn put(&self, out: &mut [u8], at: usize) -> usize {
         put_rows(out, at, self.count, &self.list)
     }
+
+    ghost defaults = { values_blank (Prim.search rules) };
 }

@@ -7,15 +7,12 @@ ghost use Rattle.xdr.specs.Reading.{Reads};
 
 use xdr::{Cursor, Got};
 
-pub trait Item: Copy {
+pub trait Item: Copy + Default {
     // Its bytes.
     ghost form: { Form Self };
 
-    // What stands where there is none.
+    // What stands where there is none: its default.
     ghost blank: { Self };
-
-    fn blank() -> Self
-        ensures { result ≡ blank };
 
     fn get(s: &[u8], c: Cursor) -> Got<Self>
         ensures { Reads form s.now c result.v result.next };
@@ -24,16 +21,14 @@ pub trait Item: Copy {
     fn put(&self, out: &mut [u8], at: usize) -> usize
         requires { at + length (form.put self.now) ≤ length out.old }
         ensures { Put at (form.put self.now) out.old result out.new };
+
+    ghost defaults: { (x : Self) → Self.Default.is_default x → x ≡ blank };
 }
 
 impl Item for u32 {
     ghost form = { u32 };
 
     ghost blank = { 0 };
-
-    fn blank() -> u32 {
-        0
-    }
 
     fn get(s: &[u8], c: Cursor) -> Got<u32> {
         xdr::get_u32(s, c)
@@ -42,16 +37,14 @@ impl Item for u32 {
     fn put(&self, out: &mut [u8], at: usize) -> usize {
         xdr::put_u32(out, at, *self)
     }
+
+    ghost defaults = { λ x h. h };
 }
 
 impl Item for u64 {
     ghost form = { u64 };
 
     ghost blank = { 0 };
-
-    fn blank() -> u64 {
-        0
-    }
 
     fn get(s: &[u8], c: Cursor) -> Got<u64> {
         xdr::get_u64(s, c)
@@ -60,6 +53,8 @@ impl Item for u64 {
     fn put(&self, out: &mut [u8], at: usize) -> usize {
         xdr::put_u64(out, at, *self)
     }
+
+    ghost defaults = { λ x h. h };
 }
 
 // The item, or nothing, as a flag that is known says.
@@ -80,7 +75,7 @@ pub fn get_if<T: Item>(has: bool, s: &[u8], c: Cursor) -> Got<T>
         return T::get(s, c);
     }
     Got {
-        v: T::blank(),
+        v: T::default(),
         next: c,
     }
 }

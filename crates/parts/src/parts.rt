@@ -1,5 +1,6 @@
 // A dependency set, and the parts that may be missing: a flag, and then the part where it is set.
 ghost use Rattle.std.specs.Prelude.{◌≡◌};
+ghost use Rattle.std.proofs.Common.{rules};
 ghost use Rattle.rules.specs.Sets.{no_set};
 ghost use Rattle.rules.specs.Maybe.{no_word, no_vote};
 ghost use Rattle.wire.specs.Parts.{set4, maybe_word, maybe_vote, prepared};
@@ -12,15 +13,6 @@ impl Item for Set {
     ghost form = { set4 };
 
     ghost blank = { no_set };
-
-    fn blank() -> Set {
-        Set {
-            w0: 0,
-            w1: 0,
-            w2: 0,
-            w3: 0,
-        }
-    }
 
     fn get(s: &[u8], c: Cursor) -> Got<Set> {
         let w0 = xdr::get_u64(s, c);
@@ -42,16 +34,14 @@ impl Item for Set {
         let c = xdr::put_u64(out, b, self.w2);
         xdr::put_u64(out, c, self.w3)
     }
+
+    ghost defaults = { Prim.search rules };
 }
 
 impl Item for MaybeWord {
     ghost form = { maybe_word };
 
     ghost blank = { no_word };
-
-    fn blank() -> MaybeWord {
-        MaybeWord { some: 0, word: 0 }
-    }
 
     fn get(s: &[u8], c: Cursor) -> Got<MaybeWord> {
         let there = xdr::get_bool(s, c);
@@ -68,20 +58,14 @@ impl Item for MaybeWord {
         let a = xdr::put_bool(out, at, there);
         put_if(out, a, there, &self.word)
     }
+
+    ghost defaults = { Prim.search rules };
 }
 
 impl Item for MaybeVote {
     ghost form = { maybe_vote };
 
     ghost blank = { no_vote };
-
-    fn blank() -> MaybeVote {
-        MaybeVote {
-            some: 0,
-            ballot: 0,
-            set: Set::blank(),
-        }
-    }
 
     fn get(s: &[u8], c: Cursor) -> Got<MaybeVote> {
         let there = xdr::get_bool(s, c);
@@ -101,16 +85,14 @@ impl Item for MaybeVote {
         let b = put_if(out, a, there, &self.ballot);
         put_if(out, b, there, &self.set)
     }
+
+    ghost defaults = { Prim.search rules };
 }
 
 impl Item for (MaybeWord, MaybeVote) {
     ghost form = { prepared };
 
     ghost blank = { (no_word, no_vote) };
-
-    fn blank() -> (MaybeWord, MaybeVote) {
-        (MaybeWord::blank(), MaybeVote::blank())
-    }
 
     fn get(s: &[u8], c: Cursor) -> Got<(MaybeWord, MaybeVote)> {
         let arrival = MaybeWord::get(s, c);
@@ -125,4 +107,6 @@ impl Item for (MaybeWord, MaybeVote) {
         let a = self.0.put(out, at);
         self.1.put(out, a)
     }
+
+    ghost defaults = { Prim.search rules };
 }

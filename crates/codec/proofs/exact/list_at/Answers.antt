@@ -1,9 +1,10 @@
 -- One more entry is read, and blank ones stand behind them. Assumes nothing.
-use Rattle.std.proofs.Common.{◌≡◌, ℕ, ◌≤◌, refl, sym, ap, ◌∙◌, ◌+◌, ◌-◌, ◌<◌, ◌++◌, length, take, replicate, arith, length-take-le}
+use Rattle.std.proofs.Common.{rules, ◌≡◌, ℕ, ◌≤◌, refl, sym, ap, ◌∙◌, ◌+◌, ◌-◌, ◌<◌, ◌++◌, length, take, replicate, arith, length-take-le}
 use Rattle.std.proofs.lemmas.List.{drop-replicate, take_all}
 use Rattle.std.proofs.Math.Nat.{mul-le-mul_right}
 use Rattle.xdr.specs.Reading.{clean}
 use Rattle.rules.specs.declared.Piece.{Piece}
+use Rattle.rules.specs.Pieces.{no_piece}
 use Rattle.wire.specs.Parts.{piece}
 use Rattle.parts.proofs.Items.{got-more}
 use Rattle.codec.proofs.exact.list_at.Goals as goal
@@ -18,7 +19,7 @@ lent n b h = length-take-le n (replicate 8 b) h
 pub at-requires : goal.at-requires
 at-requires c =
     let l = c.loop-entry in
-    let few = lent c.args.n c.blank-list.result c.requires.0 in
+    let few = lent c.args.n c.default-list.result c.requires.0 in
     let i : l.entry-index < c.args.n = omega arith in
     let m = mul-le-mul_right 16 i in
     omega (arith, l.invariant.0)
@@ -26,7 +27,7 @@ at-requires c =
 pub overflow_add-next : goal.overflow_add-next
 overflow_add-next c =
     let l = c.loop-entry in
-    let few = lent c.args.n c.blank-list.result c.requires.0 in
+    let few = lent c.args.n c.default-list.result c.requires.0 in
     let i : l.entry-index < c.args.n = omega arith in
     omega (arith, l.invariant.0)
 
@@ -40,11 +41,13 @@ pub returns : goal.returns
 returns c =
     let l = c.loop-entry in
     let n = c.args.n in
-    let b = c.blank-list.result in
+    let b = c.default-list.result in
     let few = lent n b c.requires.0 in
     let all : length l.entry-items ≡ n = l.auto.entry-items ∙ few in
-    let e : l.entry-index ≡ n = omega arith in
+    let i : l.entry-index ≡ n = omega arith in
     let whole : take l.entry-index l.entry-items ≡ l.entry-items = take_all l.entry-index l.entry-items (omega arith) in
-    let read = rw (whole, e) at l.invariant.1 in
-    let behind = drop-replicate n 8 b ∙ ap (replicate (8 - n)) c.blank-list.ensures in
-    ((λ i. read.0 i ++ behind i), ap clean (sym (rw e at l.invariant.0)) ∙ read.1)
+    let read = rw (whole, i) at l.invariant.1 in
+    let e = c.default-list.ensures in
+    let blank : b ≡ no_piece = search rules in
+    let behind = drop-replicate n 8 b ∙ ap (replicate (8 - n)) blank in
+    ((λ i. read.0 i ++ behind i), ap clean (sym (rw i at l.invariant.0)) ∙ read.1)
