@@ -10,6 +10,7 @@ use messages::codes::{
 use wire::Shape;
 
 // Anything but T, server, ballot, promise and the count of what ran.
+#[tactic(auto, unfolding(crate::specs::Sections::long))]
 pub fn has_rest(h: Shape) -> bool
     ensures { result ≡ long h }
 {

@@ -61,6 +61,7 @@ impl Item for Pieces {
         }
     }
 
+    #[tactic(auto, unfolding(wire::specs::Parts::pieces))]
     fn put(&self, out: &mut [u8], at: usize) -> usize {
         put_rows(out, at, self.count, &self.list)
     }
@@ -110,6 +111,7 @@ impl Item for Values {
         }
     }
 
+    #[tactic(auto, unfolding(wire::specs::Parts::values))]
     fn put(&self, out: &mut [u8], at: usize) -> usize {
         put_rows(out, at, self.count, &self.list)
     }

@@ -14,6 +14,7 @@ impl Item for Set {
 
     ghost blank = { no_set };
 
+    #[tactic(auto, unfolding(wire::specs::Parts::set4))]
     fn get(s: &[u8], c: Cursor) -> Got<Set> {
         let w0 = xdr::get_u64(s, c);
         let w1 = xdr::get_u64(s, w0.next);

@@ -1,7 +1,6 @@
 -- One more entry is read, and blank ones stand behind them. Assumes nothing.
-use Rattle.std.proofs.Common.{rules, ◌≡◌, ℕ, ◌≤◌, refl, sym, ap, ◌∙◌, ◌+◌, ◌-◌, ◌<◌, ◌++◌, length, take, replicate, arith, length-take-le}
+use Rattle.std.proofs.Common.{rules, ◌≡◌, ℕ, ◌≤◌, sym, ap, ◌∙◌, ◌+◌, ◌-◌, ◌++◌, length, take, replicate, arith, length-take-le}
 use Rattle.std.proofs.lemmas.List.{drop-replicate, take_all}
-use Rattle.std.proofs.Math.Nat.{mul-le-mul_right}
 use Rattle.xdr.specs.Reading.{clean}
 use Rattle.rules.specs.declared.Piece.{Piece}
 use Rattle.rules.specs.Pieces.{no_piece}
@@ -9,27 +8,9 @@ use Rattle.wire.specs.Parts.{piece}
 use Rattle.parts.proofs.Items.{got-more}
 use Rattle.codec.proofs.exact.list_at.Goals as goal
 
-pub loop-entry-init : goal.loop-entry-init
-loop-entry-init c = (omega arith, (refl, refl))
-
 -- as many entries as were lent
 lent : (n : ℕ) (b : Piece) → n ≤ 8 → length (take n (replicate 8 b)) ≡ n
 lent n b h = length-take-le n (replicate 8 b) h
-
-pub at-requires : goal.at-requires
-at-requires c =
-    let l = c.loop-entry in
-    let few = lent c.args.n c.default-list.result c.requires.0 in
-    let i : l.entry-index < c.args.n = omega arith in
-    let m = mul-le-mul_right 16 i in
-    omega (arith, l.invariant.0)
-
-pub overflow_add-next : goal.overflow_add-next
-overflow_add-next c =
-    let l = c.loop-entry in
-    let few = lent c.args.n c.default-list.result c.requires.0 in
-    let i : l.entry-index < c.args.n = omega arith in
-    omega (arith, l.invariant.0)
 
 pub loop-entry-preserved : goal.loop-entry-preserved
 loop-entry-preserved c =

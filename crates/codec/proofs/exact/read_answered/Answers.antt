@@ -1,41 +1,6 @@
 -- The words are the message. Assumes nothing.
-use native.Mathlib.Omega.{arith}
 use Rattle.codec.proofs.ReadExact.{answered-decoded}
 use Rattle.codec.proofs.exact.read_answered.Goals as goal
-
-pub at_if-ballot-requires : goal.at_if-ballot-requires
-at_if-ballot-requires c =
-    let x = c.requires in
-    let s = c.answered_shape-h.ensures in
-    let long = x.exact in
-    rw s (omega arith)
-
-pub at_if-promise-requires : goal.at_if-promise-requires
-at_if-promise-requires c =
-    let x = c.requires in
-    let s = c.answered_shape-h.ensures in
-    let long = x.exact in
-    let b = rw s at c.cost-b.ensures.0 in
-    rw s (omega arith)
-
-pub at_if-ran-requires : goal.at_if-ran-requires
-at_if-ran-requires c =
-    let x = c.requires in
-    let s = c.answered_shape-h.ensures in
-    let long = x.exact in
-    let b = rw s at c.cost-b.ensures.0 in
-    let p = rw s at c.cost.ensures.0 in
-    rw s (omega arith)
-
-pub at_if-word-requires : goal.at_if-word-requires
-at_if-word-requires c =
-    let x = c.requires in
-    let s = c.answered_shape-h.ensures in
-    let long = x.exact in
-    let b = rw s at c.cost-b.ensures.0 in
-    let p = rw s at c.cost.ensures.0 in
-    let n = rw s at c.cost-2.ensures.0 in
-    rw s (omega arith)
 
 pub returns : goal.returns
 returns c =
