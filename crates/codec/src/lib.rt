@@ -1,14 +1,12 @@
 // The bytes of a message, written and read.
 #![tactic(auto)]
 
-ghost use Rattle.std.specs.Prelude.{◌≡◌, true};
+ghost use Rattle.std.specs.Prelude.{◌≡◌};
 ghost use Rattle.wire.specs.Bytes.{decode};
 ghost use Rattle.wire.specs.Encoding.{encode};
 ghost use Rattle.encoding.specs.Answers.{answer, told_of};
-ghost use Rattle.codec.specs.Exact.{is_bare};
 
 use encoding::{Encoded, shapes};
-use rules::MaybeWord;
 use rules::refusals::Refusal;
 use wire::{Decoded, Message};
 
@@ -19,6 +17,9 @@ mod decoding; // decoding.rt: a message read by its sections, and the first faul
 pub fn decode(bytes: &[u8]) -> Decoded
     ensures { result ≡ decode bytes.now }
 {
+    if exact::is_bare(bytes) {
+        return exact::read_bare(bytes);
+    }
     if let Some(seen) = exact::see_asked(bytes) {
         return exact::read_asked(bytes, seen);
     }
@@ -26,50 +27,6 @@ pub fn decode(bytes: &[u8]) -> Decoded
         return exact::read_answered(bytes, code);
     }
     decoding::decode(bytes)
-}
-
-// For a caller that gives the message on: where the bytes say a code and T alone, it can make the message in the place where it gives it.
-pub fn is_bare(bytes: &[u8]) -> bool
-    ensures { result ≡ is_bare bytes.now }
-{
-    exact::is_bare(bytes)
-}
-
-pub fn decode_bare(bytes: &[u8]) -> Decoded
-    requires { is_bare bytes.now ≡ true }
-    ensures { result ≡ decode bytes.now }
-{
-    exact::read_bare(bytes)
-}
-
-// The same, field by field: what stands between the fields is not copied.
-pub fn by_fields(d: Decoded) -> Decoded
-    ensures { result ≡ d }
-{
-    let pieces = d.message.pieces;
-    let set = d.message.set;
-    let accepted = d.message.accepted;
-    let values = d.message.values;
-    Decoded {
-        refusal: d.refusal,
-        message: Message {
-            code: d.message.code,
-            t: d.message.t,
-            server: d.message.server,
-            ballot: d.message.ballot,
-            promise: d.message.promise,
-            pieces,
-            set,
-            word: d.message.word,
-            arrival: MaybeWord {
-                some: d.message.arrival.some,
-                word: d.message.arrival.word,
-            },
-            accepted,
-            values,
-            ran: d.message.ran,
-        },
-    }
 }
 
 // The message's bytes at the front of the output, built in a cleared buffer and then copied; or a refusal, and the output as it was.

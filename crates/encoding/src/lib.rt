@@ -66,6 +66,7 @@ pub fn front_length(h: Shape) -> usize
 }
 
 // The first n bytes of what was built, at the front of the output, where it has room for them.
+#[inline(always)]
 fn send(out: &mut [u8], built: &[u8], n: usize) -> Result<u32, Refusal>
     requires { (n ≤ length built.now) × (n < 2 ^ 32) }
     ensures { (told_of result ≡ answer (sent false (take n built.now) out.old)) × (out.new ≡ (sent false (take n built.now) out.old).buffer) }

@@ -20,10 +20,7 @@ pub fn drobulets_next_ballot(c: u32, n: u32) -> NextBallot
 pub fn drobulets_decode(input: &[u8]) -> Decoded
     ensures { result ≡ decode input.now }
 {
-    if codec::is_bare(input) {
-        return codec::decode_bare(input);
-    }
-    codec::by_fields(codec::decode(input))
+    codec::decode(input)
 }
 
 // The bytes of the lent message at the front of the output, or a refusal and the output as it was lent.
