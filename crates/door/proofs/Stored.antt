@@ -1,4 +1,4 @@
--- A message changes no record of a server but that of its T. So the record that is handed on, put in its place where nothing refuses, gives the server after the message, if nothing runs. A reply changes a drive by what it comes to. Assumes nothing.
+-- A message changes no record of a server but that of its T. So the record that is handed on, put in its place where nothing refuses, gives the server after the message, if nothing runs. Assumes nothing.
 use Prim.Native.Nat.{ℕ, ◌<◌}
 use mathlib.Core.Path.{◌≡◌, refl, sym, ap, ◌∙◌}
 use mathlib.Core.List.{List}
@@ -21,12 +21,8 @@ use Rattle.server_step.specs.OneStore.{considered, considered_at, runs_after, st
 use Rattle.server_read.specs.InPlace.{form_begun, form_in}
 use Rattle.server_read.proofs.StepInPlace.{considered_by_lem}
 use Rattle.server_step.proofs.StepIsServe.{step-is-serve, place_lt}
-use Rattle.drive.specs.declared.Drive.{Drive}
-use Rattle.drive.specs.declared.Moved.{Moved}
-use Rattle.drive_step.specs.Weighing.{turned, kept, stored}
-use Rattle.drive_step.proofs.Outcomes.{stored-hears, placed}
 use Rattle.door.specs.declared.Taken.{Taken}
-use Rattle.door.specs.Exchange.{Exchange, exchanged, take, judged_of, heard_of, place_in, answer_of, written_of, take_reply, weigh_reply}
+use Rattle.door.specs.Exchange.{Exchange, exchanged, take, judged_of, heard_of, place_in, answer_of, written_of}
 
 -- ---- what is told of a message, what is written, and the server after it, by the refusals of decoding, the step and encoding
 
@@ -105,41 +101,3 @@ module _ (s : Server) (input z : List ℕ) where
     take_left e =
         ap (λ (v : Considered). put_record s (answer_of v z).place (answer_of v z).after) heard-is
         ∙ (agrees s z d c).put (refused-too e) ∙ ap (λ (x : Exchange). x.server) asked_is
-
--- ---- what `weigh_reply` tells, where the answer that it tells is put, and the lent drive after the reply, for each way to store
-
-module _ (d : Drive) (input : List ℕ) where
-  outcome-by : (b : Bool) → there (decode input).refusal ≡ b → record { refusal = (weigh_reply d input).refusal; drive = stored d (weigh_reply d input) } ≡ take_reply d input
-  unfolding weigh_reply take_reply stored
-  outcome-by true e = rw e (rw e)
-  outcome-by false e = rw e (stored-hears d (decode input).message)
-
-  outcome : record { refusal = (weigh_reply d input).refusal; drive = stored d (weigh_reply d input) } ≡ take_reply d input
-  outcome = outcome-by _ refl
-
-  below_by : (b : Bool) → there (decode input).refusal ≡ b → (weigh_reply d input).place < 12
-  unfolding weigh_reply
-  below_by true e = rw e (omega arith)
-  below_by false e = rw e (placed d (decode input).message)
-
-  pub weigh-reply-told : (weigh_reply d input).refusal ≡ (take_reply d input).refusal
-  weigh-reply-told = ap (λ (o : Moved). o.refusal) outcome
-
-  pub weigh-reply-below : (weigh_reply d input).place < 12
-  weigh-reply-below = below_by _ refl
-
-  left : stored d (weigh_reply d input) ≡ (take_reply d input).drive
-  left = ap (λ (o : Moved). o.drive) outcome
-
-  pub weigh-reply-refused : there (weigh_reply d input).refusal ≡ true → d ≡ (take_reply d input).drive
-  unfolding stored
-  weigh-reply-refused e = rw e at left
-
-  module _ (taken : there (weigh_reply d input).refusal ≡ false) where
-    pub weigh-reply-turned : (weigh_reply d input).turns ≡ true → turned (weigh_reply d input) ≡ (take_reply d input).drive
-    unfolding stored
-    weigh-reply-turned e = rw (taken, e) at left
-
-    pub weigh-reply-kept : (weigh_reply d input).turns ≡ false → kept d (weigh_reply d input).place (weigh_reply d input).answer (weigh_reply d input).seen ≡ (take_reply d input).drive
-    unfolding stored
-    weigh-reply-kept e = rw (taken, e) at left

@@ -15,3 +15,4 @@ pub mod DueIs
 pub mod Decided
 pub mod DecideKeepsForm
 pub mod KeepsForm
+pub mod Told

@@ -1,4 +1,2 @@
 pub mod Turning
-pub mod Highest
 pub mod Wording
-pub mod Choosing

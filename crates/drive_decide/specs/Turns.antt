@@ -1,11 +1,10 @@
 -- What a decision changes: the phase, with its set or none. A drive that is turned begins that phase with no answer counted, and keeps the rest.
 -- The decisions of `drive` are these turns, by the laws of proofs/Turning.
-use Rattle.std.specs.Prelude.{ℕ, ◌%◌, Bool, false, ◌&&◌, ltb, eqb}
+use Rattle.std.specs.Prelude.{ℕ, Bool, Option, Some, None, ◌&&◌, ltb, eqb}
 use Rattle.rules.specs.declared.Set.{Set}
 use Rattle.masks.specs.Bits.{union}
 use Rattle.rules.specs.Choice.{◌if◌else◌}
 use Rattle.rules.specs.Flags.{there, implies}
-use Rattle.rules.specs.Sets.{no_set}
 use Rattle.rules.specs.Maybe.{not_set, some_set}
 use Rattle.drive.specs.declared.Answer.{Answer}
 use Rattle.drive.specs.declared.Drive.{Drive}
@@ -14,7 +13,6 @@ use Rattle.drive.specs.Decide.{all_answered, has_word, equal_words, unions, high
 use Rattle.drive_form.specs.Parts.{word_of}
 use Rattle.drive_decide.specs.declared.InShard.{InShard}
 use Rattle.drive_decide.specs.declared.InShards.{InShards}
-use Rattle.drive_decide.specs.declared.Vote.{Vote}
 use Rattle.drive_decide.specs.declared.Turn.{Turn}
 
 abbrev pub turned : Drive → Turn → Drive
@@ -27,11 +25,9 @@ abbrev pub to_phase1 : Turn
 to_phase1 = record { phase = 1; chosen = not_set }
 
 -- phase 0: v is the accepted set of the highest ballot, where one is held
-unfoldable pub turn0 : (held : Bool) → Set → (equal : Bool) (union : Set) → Turn
-turn0 held v equal u =
-    to 2 v if held
-    else to 2 u if equal
-    else to_phase1
+unfoldable pub turn0 : Option Set → (equal : Bool) (union : Set) → Turn
+turn0 (Some v) equal u = to 2 v
+turn0 None equal u = to 2 u if equal else to_phase1
 
 -- phase 1
 unfoldable pub turn1 : (first all equal : Bool) (union : Set) → Turn
@@ -56,23 +52,18 @@ in_all a b c d = record { union = record { w0 = a.union; w1 = b.union; w2 = c.un
 abbrev pub words_of : Drive → InShards
 words_of d = record { union = unions d; equal = equal_words d }
 
-abbrev pub nobody : Vote
-nobody = record { held = false; set = no_set }
+-- the server s of the twelve; 12 is none
+abbrev pub server_or_none : ℕ → Option ℕ
+server_or_none s = Some s if ltb s 12 else None
 
--- where nobody holds an accepted set, any may stand in its place
-abbrev pub vote_of : Drive → Vote
-vote_of d = record { held = ltb (highest d) 12; set = (answer_at d (highest d % 12)).accepted.set }
+-- the accepted set of the highest ballot, where one is held
+abbrev pub vote_of : Drive → Option Set
+vote_of d = Some (answer_at d (highest d)).accepted.set if ltb (highest d) 12 else None
 
 -- ---- what the drive decides
 
-unfoldable pub turn_by : (phase : ℕ) (first all : Bool) → Vote → InShards → Set → Turn
-turn_by p first all v w chosen =
-    turn0 v.held v.set w.equal w.union if eqb p 0
-    else turn1 first all w.equal w.union if eqb p 1
-    else to 3 chosen
-
 unfoldable pub turn_of : Drive → Turn
 turn_of d =
-    turn0 (ltb (highest d) 12) (answer_at d (highest d)).accepted.set (equal_words d) (unions d) if eqb d.phase 0
+    turn0 (vote_of d) (equal_words d) (unions d) if eqb d.phase 0
     else turn1 (eqb d.ballot 0) (all_answered d) (equal_words d) (unions d) if eqb d.phase 1
     else to 3 d.chosen.set

@@ -1,5 +1,5 @@
 -- The parts of a drive's form, each over the fields that it looks at, and the counted answers as a word of servers. At a drive's own fields they are the definitions of `drive`, by the laws of proofs/Parts.
-use Rattle.std.specs.Prelude.{ℕ, ◌+◌, ◌*◌, ◌/◌, ◌^◌, Bool, true, cond, not, ◌&&◌, ◌||◌, leb, ltb, eqb}
+use Rattle.std.specs.Prelude.{ℕ, ◌+◌, ◌*◌, ◌/◌, ◌^◌, Bool, Result, Ok, Err, true, cond, not, ◌&&◌, ◌||◌, leb, ltb, eqb}
 use Rattle.masks.specs.Bits.{has, none, insert, union, both, within}
 use Rattle.masks.specs.Folds.{all_below, mask_of, union_of}
 use Rattle.rules.specs.Choice.{◌if◌else◌}
@@ -10,11 +10,14 @@ use Rattle.rules.specs.Sets.{bad_set}
 use Rattle.rules.specs.declared.MaybeSet.{MaybeSet}
 use Rattle.drive.specs.declared.Answer.{Answer}
 use Rattle.drive.specs.declared.Drive.{Drive}
-use Rattle.drive.specs.Held.{answer_at, counted}
+use Rattle.drive.specs.Held.{answer_at, counted, touched}
 use Rattle.drive.specs.Decide.{has_word}
-use Rattle.drive.specs.Form.{accepted_formed}
+use Rattle.drive.specs.Form.{accepted_formed, formed}
 use Rattle.drive.specs.Due.{servers_of}
 use Rattle.drive_form.specs.declared.Walked.{Walked}
+use Rattle.drive_form.specs.declared.Counted.{Counted}
+use Rattle.rules.specs.declared.refusals.Refusal.{Refusal}
+use Rattle.rules.specs.declared.refusals.Refusal.TheVariants.{OutOfForm}
 
 -- ---- numbers, ballots, one answer, the set
 
@@ -91,3 +94,12 @@ formed_by t c b p seen v touched l =
     && answers_kept t p touched l.answered l.words
     && l.kept
     && set_kept t touched p v
+
+-- ---- who is counted
+
+abbrev pub counted_of : Drive → Counted
+counted_of d = record { shards = touched d; answered = mask_of (counted d) 12 }
+
+-- 13, or who is counted
+abbrev pub in_form : Drive → Result Counted Refusal
+in_form d = Ok (counted_of d) if formed d else Err OutOfForm

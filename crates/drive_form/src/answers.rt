@@ -5,18 +5,18 @@ ghost use Rattle.drive.specs.Decide.{has_word, has_accepted};
 ghost use Rattle.drive.specs.Form.{accepted_formed};
 ghost use Rattle.drive_form.specs.Parts.{word_of};
 
-use drive::Answer;
+use drive::{Answer, Drive};
 
 // A counted answer with an arrival word.
-pub fn has_word(a: Answer) -> bool
-    ensures { result ≡ has_word a }
+pub fn has_word(a: &Answer) -> bool
+    ensures { result ≡ has_word a.now }
 {
     (a.counted != 0) & (a.arrival.some != 0)
 }
 
 // A counted answer with an accepted set.
-pub fn has_accepted(a: Answer) -> bool
-    ensures { result ≡ has_accepted a }
+pub fn has_accepted(a: &Answer) -> bool
+    ensures { result ≡ has_accepted a.now }
 {
     (a.counted != 0) & (a.accepted.some != 0)
 }
@@ -29,24 +29,19 @@ pub fn addressed(shards: u64, s: u32) -> bool
 }
 
 // The word of a counted answer, or nothing.
-pub fn word_of(a: Answer) -> u64
-    ensures { result ≡ word_of a }
+pub fn word_of(a: &Answer) -> u64
+    ensures { result ≡ word_of a.now }
 {
-    let held = has_word(a);
-    if held {
-        return a.arrival.word;
-    }
-    0
+    if has_word(a) { a.arrival.word } else { 0 }
 }
 
-// The accepted ballot and set that an answer holds in phase 0.
-pub fn accepted_formed(t: u32, shards: u64, phase: u32, a: Answer) -> bool
-    ensures { result ≡ accepted_formed t shards phase a }
+// The accepted ballot and set that an answer to `d` holds in phase 0.
+#[tactic(auto, unfolding(drive::specs::Form::accepted_formed))]
+pub fn accepted_formed(d: &Drive, shards: u64, a: &Answer) -> bool
+    ensures { result ≡ accepted_formed d.now.t shards d.now.phase a.now }
 {
-    let held = (phase == 0) & has_accepted(a);
-    if held {
-        return !rules::ballots::bad_ballot(a.accepted.ballot)
-            & !rules::sets::bad_set(t, shards, a.accepted.set);
-    }
-    true
+    let held = (d.phase == 0) & has_accepted(a);
+    !held
+        | (!rules::ballots::bad_ballot(a.accepted.ballot)
+            & !rules::sets::bad_set(d.t, shards, a.accepted.set))
 }

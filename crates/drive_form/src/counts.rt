@@ -5,6 +5,8 @@ ghost use Rattle.masks.specs.Folds.{all_below};
 ghost use Rattle.drive.specs.Due.{servers_of};
 ghost use Rattle.drive_form.specs.Parts.{with_shard, pairs, two_from, enough};
 
+use crate::Counted;
+
 // The first server of each shard.
 const FIRSTS: u64 = 0b001_001_001_001;
 
@@ -13,12 +15,11 @@ fn with_shard(w: u64, shards: u64, k: usize) -> u64
     requires { k < 4 }
     ensures { result ≡ with_shard shards k w }
 {
-    let first = 3 * k;
-    let touched = masks::has(shards, k);
-    if touched {
-        return masks::insert(masks::insert(masks::insert(w, first), first + 1), first + 2);
+    if !masks::has(shards, k) {
+        return w;
     }
-    w
+    let first = 3 * k;
+    masks::insert(masks::insert(masks::insert(w, first), first + 1), first + 2)
 }
 
 // The servers of the touched shards.
@@ -29,13 +30,6 @@ pub fn servers_of(shards: u64) -> u64
     let b = with_shard(a, shards, 1);
     let c = with_shard(b, shards, 2);
     with_shard(c, shards, 3)
-}
-
-// All servers of the touched shards answered.
-pub fn all_answered(shards: u64, answered: u64) -> bool
-    ensures { result ≡ within (servers_of shards) answered }
-{
-    masks::within(servers_of(shards), answered)
 }
 
 // At the first server of a shard: two at least of its three are in w.
@@ -50,20 +44,33 @@ fn pairs(w: u64) -> u64
     )
 }
 
-// Two of each touched shard answered.
-pub fn two_in_each(shards: u64, answered: u64) -> bool
-    ensures { result ≡ all_below (two_from shards answered) 4 }
-{
-    masks::within(masks::both(servers_of(shards), FIRSTS), pairs(answered))
-}
-
-// The answers decide without "move on".
-pub fn decided(phase: u32, shards: u64, answered: u64) -> bool
-    ensures { result ≡ enough phase shards answered }
-{
-    let accepting = phase == 2;
-    if accepting {
-        return two_in_each(shards, answered);
+impl Counted {
+    // All servers of the touched shards answered.
+    pub fn all_answered(self) -> bool
+        ensures { result ≡ within (servers_of self.shards) self.answered }
+    {
+        masks::within(servers_of(self.shards), self.answered)
     }
-    all_answered(shards, answered)
+
+    // Two of each touched shard answered.
+    pub fn two_in_each(self) -> bool
+        ensures { result ≡ all_below (two_from self.shards self.answered) 4 }
+    {
+        masks::within(
+            masks::both(servers_of(self.shards), FIRSTS),
+            pairs(self.answered),
+        )
+    }
+
+    // The answers decide without "move on".
+    #[tactic(auto, unfolding(crate::specs::Parts::enough))]
+    pub fn decided(self, phase: u32) -> bool
+        ensures { result ≡ enough phase self.shards self.answered }
+    {
+        if phase == 2 {
+            self.two_in_each()
+        } else {
+            self.all_answered()
+        }
+    }
 }

@@ -1,14 +1,14 @@
 // The state form of a drive, and whether its counted answers decide.
 #![tactic(auto)]
 
-ghost use Rattle.std.specs.Prelude.{◌≡◌, ◌<◌};
-ghost use Rattle.drive.specs.Form.{formed};
-ghost use Rattle.drive_form.specs.Parts.{numbers_kept, ballots_kept, head_kept, set_kept, at_first, further, walked_to, answers_kept, formed_by};
+ghost use Rattle.std.specs.Prelude.{◌≡◌, ◌<◌, length};
+ghost use Rattle.drive.specs.Form.{numbers_formed, ballots_formed, formed};
+ghost use Rattle.drive_form.specs.Parts.{head_kept, set_kept, at_first, further, walked_to, answers_kept, formed_by, in_form};
 
 use drive::{Answer, Drive};
-use rules::MaybeSet;
 use rules::ballots::{bad_ballot, may_use};
 use rules::cluster::{LAST_PHASE, bad_coordinator, bad_number};
+use rules::refusals::Refusal;
 use rules::sets::bad_set;
 use transaction::touched;
 
@@ -23,133 +23,132 @@ pub struct Walked {
     pub kept: bool,
 }
 
-// Number, coordinator and phase are in range.
-fn numbers_formed(t: u32, coordinator: u32, phase: u32) -> bool
-    ensures { result ≡ numbers_kept t coordinator phase }
-{
-    !bad_number(t) & !bad_coordinator(coordinator) & (phase <= LAST_PHASE)
+// The shards that a drive touches, and the servers whose answers are counted.
+#[derive(Clone, Copy)]
+pub struct Counted {
+    pub shards: u64,
+    pub answered: u64,
 }
 
-// The ballot is one that the coordinator may use, not 0 in phase 0; the promise seen is valid.
-fn ballots_formed(t: u32, coordinator: u32, phase: u32, ballot: u32, seen: u32) -> bool
-    ensures { result ≡ ballots_kept t coordinator phase ballot seen }
-{
-    may_use(coordinator, t, ballot) & (!(phase == 0) | !(ballot == 0)) & !bad_ballot(seen)
-}
-
-// All that is not an answer or a set, where the pieces touch the shards in `shards`: none if they break their rule.
-pub fn head_formed(
-    t: u32,
-    coordinator: u32,
-    ballot: u32,
-    phase: u32,
-    seen: u32,
-    shards: u64,
-) -> bool
-    ensures { result ≡ head_kept t coordinator ballot phase seen shards }
-{
-    numbers_formed(t, coordinator, phase)
-        & !masks::is_empty(shards)
-        & ballots_formed(t, coordinator, phase, ballot, seen)
-}
-
-// A set is held exactly in phases 2 and 3, and keeps rule 3.
-pub fn set_formed(t: u32, shards: u64, phase: u32, chosen: MaybeSet) -> bool
-    ensures { result ≡ set_kept t shards phase chosen }
-{
-    let held = chosen.some != 0;
-    let late = 2 <= phase;
-    if late {
-        return held & !bad_set(t, shards, chosen.set);
+impl Walked {
+    // Before the first answer.
+    pub fn at_first() -> Walked
+        ensures { result ≡ at_first }
+    {
+        Walked {
+            answered: 0,
+            words: 0,
+            kept: true,
+        }
     }
-    !held
-}
 
-// Before the first answer.
-pub fn at_first() -> Walked
-    ensures { result ≡ at_first }
-{
-    Walked {
-        answered: 0,
-        words: 0,
-        kept: true,
+    // One answer more, that of the server `s` to the drive `d`.
+    pub fn further(self, d: &Drive, shards: u64, s: usize, a: &Answer) -> Walked
+        requires { s < 12 }
+        ensures { result ≡ further d.now.t shards d.now.phase s a.now self }
+    {
+        if a.counted == 0 {
+            return self;
+        }
+        Walked {
+            answered: masks::insert(self.answered, s),
+            words: masks::union(self.words, answers::word_of(a)),
+            kept: self.kept & answers::accepted_formed(d, shards, a),
+        }
     }
-}
-
-// One answer more, that of the server `s`.
-pub fn further(l: Walked, t: u32, shards: u64, phase: u32, s: usize, a: Answer) -> Walked
-    requires { s < 12 }
-    ensures { result ≡ further t shards phase s a l }
-{
-    let counted = a.counted != 0;
-    if counted {
-        return Walked {
-            answered: masks::insert(l.answered, s),
-            words: masks::union(l.words, answers::word_of(a)),
-            kept: l.kept & answers::accepted_formed(t, shards, phase, a),
-        };
-    }
-    l
-}
-
-// The counted servers, and what is in any of their words: from touched servers only, none in phase 3, no word with the number itself, and too few to decide.
-pub fn answers_formed(t: u32, phase: u32, shards: u64, answered: u64, words: u64) -> bool
-    ensures { result ≡ answers_kept t phase shards answered words }
-{
-    let last = phase == 3;
-    masks::within(answered, counts::servers_of(shards))
-        & (!last | masks::is_empty(answered))
-        & (!(phase < 2) | !masks::has(words, t as usize))
-        & (last | !counts::decided(phase, shards, answered))
 }
 
 // A walk of all answers.
-pub fn walk(d: Drive, shards: u64) -> Walked
-    ensures { result ≡ walked_to d shards 12 }
+pub fn walk(d: &Drive, shards: u64) -> Walked
+    ensures walked { result ≡ walked_to d.now shards 12 }
+    ensures whole { length d.now.answers ≡ 12 }
 {
-    let mut l = at_first();
-    let mut s: usize = 0;
-    while s < 12 {
-        let a = d.answers[s];
-        l = further(l, d.t, shards, d.phase, s, a);
-        s += 1;
+    let mut walked = Walked::at_first();
+    for s in 0..12 {
+        walked = walked.further(d, shards, s, &d.answers[s]);
     }
-    l
+    walked
 }
 
-// The form, from the fields of a drive, the touched shards and the walk of its answers.
-pub fn formed_by(
-    t: u32,
-    coordinator: u32,
-    ballot: u32,
-    phase: u32,
-    seen: u32,
-    chosen: MaybeSet,
-    shards: u64,
-    l: Walked,
-) -> bool
-    ensures { result ≡ formed_by t coordinator ballot phase seen chosen shards l }
+// Number, coordinator and phase are in range.
+#[tactic(auto, unfolding(drive::specs::Form::numbers_formed))]
+fn numbers_formed(d: &Drive) -> bool
+    ensures { result ≡ numbers_formed d.now }
 {
-    head_formed(t, coordinator, ballot, phase, seen, shards)
-        & answers_formed(t, phase, shards, l.answered, l.words)
-        & l.kept
-        & set_formed(t, shards, phase, chosen)
+    !bad_number(d.t) & !bad_coordinator(d.coordinator) & (d.phase <= LAST_PHASE)
+}
+
+// The ballot is one that the coordinator may use, not 0 in phase 0; the promise seen is valid.
+#[tactic(auto, unfolding(drive::specs::Form::ballots_formed))]
+fn ballots_formed(d: &Drive) -> bool
+    ensures { result ≡ ballots_formed d.now }
+{
+    may_use(d.coordinator, d.t, d.ballot) & ((d.phase != 0) | (d.ballot != 0)) & !bad_ballot(d.seen)
+}
+
+// All that is not an answer or a set, where the pieces touch the shards in `shards`: none if they break their rule.
+#[tactic(auto, unfolding(drive::specs::Form::numbers_formed, drive::specs::Form::ballots_formed))]
+pub fn head_formed(d: &Drive, shards: u64) -> bool
+    ensures { result ≡ head_kept d.now.t d.now.coordinator d.now.ballot d.now.phase d.now.seen shards }
+{
+    numbers_formed(d) & !masks::is_empty(shards) & ballots_formed(d)
+}
+
+// A set is held exactly in phases 2 and 3, and keeps rule 3.
+pub fn set_formed(d: &Drive, shards: u64) -> bool
+    ensures { result ≡ set_kept d.now.t shards d.now.phase d.now.chosen }
+{
+    let held = d.chosen.some != 0;
+    if d.phase < 2 {
+        return !held;
+    }
+    held & !bad_set(d.t, shards, d.chosen.set)
+}
+
+// The counted servers, and what is in any of their words: from touched servers only, none in phase 3, no word with the number itself, and too few to decide.
+#[tactic(auto, unfolding(crate::specs::Parts::answers_kept))]
+pub fn answers_formed(d: &Drive, shards: u64, walked: Walked) -> bool
+    ensures { result ≡ answers_kept d.now.t d.now.phase shards walked.answered walked.words }
+{
+    let last = d.phase == 3;
+    let counted = Counted {
+        shards,
+        answered: walked.answered,
+    };
+    masks::within(walked.answered, counts::servers_of(shards))
+        & (!last | masks::is_empty(walked.answered))
+        & (!(d.phase < 2) | !masks::has(walked.words, d.t as usize))
+        & (last | !counted.decided(d.phase))
+}
+
+// The form, from the touched shards of a drive and the walk of its answers.
+#[tactic(auto, unfolding(crate::specs::Parts::formed_by))]
+pub fn formed_by(d: &Drive, shards: u64, walked: Walked) -> bool
+    ensures { result ≡ formed_by d.now.t d.now.coordinator d.now.ballot d.now.phase d.now.seen d.now.chosen shards walked }
+{
+    head_formed(d, shards) & answers_formed(d, shards, walked) & walked.kept & set_formed(d, shards)
+}
+
+// Who is counted at a drive in form.
+pub fn in_form(d: &Drive) -> Result<Counted, Refusal>
+    ensures in_form { result ≡ in_form d.now }
+    ensures whole { length d.now.answers ≡ 12 }
+{
+    let shards = touched(d.pieces);
+    let walked = walk(d, shards);
+    if formed_by(d, shards, walked) {
+        Ok(Counted {
+            shards,
+            answered: walked.answered,
+        })
+    } else {
+        Err(Refusal::OutOfForm)
+    }
 }
 
 // The drive is in form.
-pub fn formed(d: Drive) -> bool
-    ensures { result ≡ formed d }
+pub fn formed(d: &Drive) -> bool
+    ensures { result ≡ formed d.now }
 {
-    let shards = touched(d.pieces);
-    let l = walk(d, shards);
-    formed_by(
-        d.t,
-        d.coordinator,
-        d.ballot,
-        d.phase,
-        d.seen,
-        d.chosen,
-        shards,
-        l,
-    )
+    in_form(d).is_ok()
 }

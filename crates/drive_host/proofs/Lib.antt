@@ -1,2 +1,1 @@
-pub mod Unless
-pub mod MovingOn
+pub mod NextBallots

@@ -1,192 +1,130 @@
-// What the host says to a drive: start, recover, again, move on; and the message that is due.
+// What the host says to a drive: start, recover, again, move on; and the message that is due. On a refusal the drive stays as it was lent.
 #![tactic(auto)]
 
-ghost use Rattle.std.specs.Prelude.{◌≡◌};
+ghost use Rattle.std.specs.Prelude.{◌≡◌, IfOk};
+ghost use Rattle.rules.specs.Ballots.{next_above};
+ghost use Rattle.rules.specs.Refusal.{told};
 ghost use Rattle.drive.specs.Held.{began};
 ghost use Rattle.drive.specs.Host.{start_refusal, start, recover_refusal, recover, again, move_on};
-ghost use Rattle.drive_decide.specs.Turns.{turned};
 
-use drive::{Drive, Moved};
-use drive_decide::{Turn, decide, no_answer};
-use drive_form::counts::{all_answered, two_in_each};
-use drive_form::{formed, formed_by, walk};
-use drive_step::higher;
-use rules::ballots::{next_above, no_next, origin};
+use drive::{Answer, Drive};
+use drive_decide::decide;
+use drive_form::in_form;
+use rules::ballots::origin;
 use rules::cluster::{bad_coordinator, bad_number};
-use rules::{MaybeSet, Pieces, Set};
-use transaction::{pieces_kept, too_many, touched};
+use rules::refusals::Refusal;
+use rules::{Ballot, MaybeSet, Pieces};
+use transaction::{pieces_kept, too_many};
 
-pub mod order; // order.rt: the refusals of an event on a held drive, in their order
 pub mod sending; // sending.rt: the message due, and to whom
 
 // A drive at the beginning of phase 0 or 1, with no set.
 pub fn began(t: u32, coordinator: u32, ballot: u32, phase: u32, pieces: Pieces, seen: u32) -> Drive
     ensures { result ≡ began t coordinator ballot phase pieces seen }
 {
-    let empty = Set {
-        w0: 0,
-        w1: 0,
-        w2: 0,
-        w3: 0,
-    };
-    let none = [no_answer(); 12];
     Drive {
-        t: t,
-        coordinator: coordinator,
-        ballot: ballot,
-        phase: phase,
-        pieces: pieces,
-        answers: none,
-        chosen: MaybeSet {
-            some: 0,
-            set: empty,
-        },
-        seen: seen,
+        t,
+        coordinator,
+        ballot,
+        phase,
+        pieces,
+        answers: [Answer::default(); 12],
+        chosen: MaybeSet::default(),
+        seen,
     }
 }
 
-// The drive after a decision.
-pub fn turned(d: Drive, turn: Turn) -> Drive
-    ensures { result ≡ turned d turn }
+// What is wrong with a start.
+#[tactic(auto, unfolding(drive::specs::Host::start_refusal))]
+fn judge_start(coordinator: u32, t: u32, pieces: Pieces) -> Result<(), Refusal>
+    ensures { told result ≡ start_refusal coordinator t pieces }
 {
-    let none = [no_answer(); 12];
-    let chosen = turn.chosen;
-    let mut n = d;
-    n.phase = turn.phase;
-    n.answers = none;
-    n.chosen = chosen;
-    n
-}
-
-// 12, 1, 2 of a start.
-fn start_refusal(coordinator: u32, t: u32, pieces: Pieces) -> u32
-    ensures { result ≡ start_refusal coordinator t pieces }
-{
-    let over = too_many(pieces);
-    let wrong = bad_coordinator(coordinator) | bad_number(t) | !(coordinator == origin(t));
-    let broken = !pieces_kept(pieces);
-    if over {
-        return 12;
+    if too_many(pieces) {
+        return Err(Refusal::Unknown);
     }
-    if wrong {
-        return 1;
+    if bad_coordinator(coordinator) | bad_number(t) | (coordinator != origin(t)) {
+        return Err(Refusal::OutOfRange);
     }
-    if broken {
-        return 2;
+    if !pieces_kept(pieces) {
+        return Err(Refusal::BadPieces);
     }
-    0
+    Ok(())
 }
 
 // Phase 1 at ballot 0, by the origin of `t`. What the lent drive held is not judged.
-pub fn start(d: Drive, coordinator: u32, t: u32, pieces: Pieces) -> Moved
-    ensures { result ≡ start d coordinator t pieces }
+#[tactic(auto, unfolding(drive::specs::Host::start, drive::specs::Host::unless))]
+pub fn start(d: &mut Drive, coordinator: u32, t: u32, pieces: Pieces) -> Result<(), Refusal>
+    ensures refused { told result ≡ (start d.old coordinator t pieces).refusal }
+    ensures started { d.new ≡ (start d.old coordinator t pieces).drive }
 {
-    let no = start_refusal(coordinator, t, pieces);
-    let taken = no == 0;
-    if taken {
-        let fresh = began(t, coordinator, 0, 1, pieces, 0);
-        return Moved {
-            refusal: 0,
-            drive: fresh,
-        };
-    }
-    Moved {
-        refusal: no,
-        drive: d,
-    }
+    judge_start(coordinator, t, pieces)?;
+    *d = began(t, coordinator, 0, 1, pieces, 0);
+    Ok(())
 }
 
-// 12, 1, 2, 9 of a recovery.
-fn recover_refusal(coordinator: u32, t: u32, pieces: Pieces, floor: u32) -> u32
-    ensures { result ≡ recover_refusal coordinator t pieces floor }
+// The ballot of a recovery, the next above `floor`, or what is wrong with it.
+#[tactic(auto, unfolding(drive::specs::Host::recover_refusal, rules::specs::Ballots::next_ballot, rules::specs::Ballots::next_refusal))]
+fn judge_recovery(coordinator: u32, t: u32, pieces: Pieces, floor: u32) -> Result<Ballot, Refusal>
+    ensures refused { told result ≡ recover_refusal coordinator t pieces floor }
+    ensures next { IfOk result (λ b. b.number ≡ next_above coordinator floor) }
 {
-    let over = too_many(pieces);
-    let wrong = bad_coordinator(coordinator) | bad_number(t);
-    let broken = !pieces_kept(pieces);
-    let past = no_next(coordinator, floor);
-    if over {
-        return 12;
+    if too_many(pieces) {
+        return Err(Refusal::Unknown);
     }
-    if wrong {
-        return 1;
+    if bad_coordinator(coordinator) | bad_number(t) {
+        return Err(Refusal::OutOfRange);
     }
-    if broken {
-        return 2;
+    if !pieces_kept(pieces) {
+        return Err(Refusal::BadPieces);
     }
-    if past {
-        return 9;
-    }
-    0
+    Ballot::next(coordinator, floor)
 }
 
 // Phase 0 at the next ballot above `floor`. What the lent drive held is not judged.
-pub fn recover(d: Drive, coordinator: u32, t: u32, pieces: Pieces, floor: u32) -> Moved
-    ensures { result ≡ recover d coordinator t pieces floor }
+#[tactic(auto, unfolding(drive::specs::Host::recover, drive::specs::Host::unless))]
+pub fn recover(
+    d: &mut Drive,
+    coordinator: u32,
+    t: u32,
+    pieces: Pieces,
+    floor: u32,
+) -> Result<(), Refusal>
+    ensures refused { told result ≡ (recover d.old coordinator t pieces floor).refusal }
+    ensures recovers { d.new ≡ (recover d.old coordinator t pieces floor).drive }
 {
-    let no = recover_refusal(coordinator, t, pieces, floor);
-    let taken = no == 0;
-    if taken {
-        let ballot = next_above(coordinator, floor) as u32;
-        let fresh = began(t, coordinator, ballot, 0, pieces, 0);
-        return Moved {
-            refusal: 0,
-            drive: fresh,
-        };
-    }
-    Moved {
-        refusal: no,
-        drive: d,
-    }
+    let ballot = judge_recovery(coordinator, t, pieces, floor)?;
+    *d = began(t, coordinator, ballot.number, 0, pieces, 0);
+    Ok(())
 }
 
 // Phase 0 at the next ballot above its own and every promise seen.
-pub fn again(d: Drive) -> Moved
-    ensures { result ≡ again d }
+#[tactic(auto, unfolding(drive::specs::Host::again, drive::specs::Host::again_refusal, drive::specs::Host::unless))]
+pub fn again(d: &mut Drive) -> Result<(), Refusal>
+    ensures refused { told result ≡ (again d.old).refusal }
+    ensures again { d.new ≡ (again d.old).drive }
 {
-    let above = higher(d.ballot, d.seen);
-    let no = order::again_refusal(formed(d), d.phase == 3, no_next(d.coordinator, above));
-    let taken = no == 0;
-    if taken {
-        let ballot = next_above(d.coordinator, above) as u32;
-        let fresh = began(d.t, d.coordinator, ballot, 0, d.pieces, d.seen);
-        return Moved {
-            refusal: 0,
-            drive: fresh,
-        };
+    in_form(d)?;
+    if d.phase == 3 {
+        return Err(Refusal::Misplaced);
     }
-    Moved {
-        refusal: no,
-        drive: d,
-    }
+    let ballot = Ballot::next(d.coordinator, d.ballot.max(d.seen))?;
+    *d = began(d.t, d.coordinator, ballot.number, 0, d.pieces, d.seen);
+    Ok(())
 }
 
 // Decide with two answers in each shard.
-pub fn move_on(d: Drive) -> Moved
-    ensures { result ≡ move_on d }
+#[tactic(auto, unfolding(drive::specs::Host::move_on, drive::specs::Host::move_on_refusal, drive::specs::Host::unless))]
+pub fn move_on(d: &mut Drive) -> Result<(), Refusal>
+    ensures refused { told result ≡ (move_on d.old).refusal }
+    ensures moved { d.new ≡ (move_on d.old).drive }
 {
-    let shards = touched(d.pieces);
-    let l = walk(d, shards);
-    let formed = formed_by(
-        d.t,
-        d.coordinator,
-        d.ballot,
-        d.phase,
-        d.seen,
-        d.chosen,
-        shards,
-        l,
-    );
-    let no = order::move_on_refusal(formed, d.phase == 3, two_in_each(shards, l.answered));
-    let taken = no == 0;
-    if taken {
-        let next = turned(d, decide(d, all_answered(shards, l.answered)));
-        return Moved {
-            refusal: 0,
-            drive: next,
-        };
+    let counted = in_form(d)?;
+    if d.phase == 3 {
+        return Err(Refusal::Misplaced);
     }
-    Moved {
-        refusal: no,
-        drive: d,
+    if !counted.two_in_each() {
+        return Err(Refusal::TooFew);
     }
+    decide(d, counted.all_answered()).begin(d);
+    Ok(())
 }

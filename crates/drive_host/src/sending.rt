@@ -1,52 +1,43 @@
 // The message that a drive's phase has due, and the servers that it is due to.
 ghost use Rattle.std.specs.Prelude.{◌≡◌};
 ghost use Rattle.drive.specs.Due.{due_message, due};
+ghost use Rattle.drive_host.specs.Sent.{sent};
 
-use drive::{Drive, Sending};
+use drive::Drive;
 use drive_form::counts::servers_of;
-use drive_form::formed;
+use drive_form::in_form;
 use messages::asks::{accept, commit, pre_accept, prepare};
-use messages::blank;
-use transaction::shards_of;
+use rules::refusals::Refusal;
 use wire::Message;
 
-// By phase: Prepare, PreAccept, Accept, Commit.
-fn due_message(d: Drive) -> Message
-    ensures { result ≡ due_message d }
-{
-    let preparing = d.phase == 0;
-    let arriving = d.phase == 1;
-    let accepting = d.phase == 2;
-    if preparing {
-        return prepare(d.t, d.ballot, d.pieces);
-    }
-    if arriving {
-        return pre_accept(d.t, d.ballot, d.pieces);
-    }
-    if accepting {
-        return accept(d.t, d.ballot, d.pieces, d.chosen.set);
-    }
-    commit(d.t, d.pieces, d.chosen.set)
+// A message, and to which servers: bit s of the word for the server s.
+#[derive(Clone, Copy)]
+pub struct Letter {
+    pub message: Message,
+    pub servers: u32,
 }
 
-// The message due and the servers of the touched shards, or 13.
-pub fn due(d: Drive) -> Sending
-    ensures { result ≡ due d }
+// By phase: Prepare, PreAccept, Accept, Commit.
+#[tactic(auto, unfolding(drive::specs::Due::due_message))]
+fn due_message(d: &Drive) -> Message
+    ensures { result ≡ due_message d.now }
 {
-    let kept = formed(d);
-    if kept {
-        let servers = servers_of(shards_of(d.pieces)) as u32;
-        let m = due_message(d);
-        return Sending {
-            refusal: 0,
-            message: m,
-            servers: servers,
-        };
+    match d.phase {
+        0 => prepare(d.t, d.ballot, d.pieces),
+        1 => pre_accept(d.t, d.ballot, d.pieces),
+        2 => accept(d.t, d.ballot, d.pieces, d.chosen.set),
+        _ => commit(d.t, d.pieces, d.chosen.set),
     }
-    let none = blank();
-    Sending {
-        refusal: 13,
-        message: none,
-        servers: 0,
-    }
+}
+
+// The message due and the servers of the touched shards.
+#[tactic(auto, unfolding(drive::specs::Due::due))]
+pub fn due(d: &Drive) -> Result<Letter, Refusal>
+    ensures { sent result ≡ due d.now }
+{
+    let counted = in_form(d)?;
+    Ok(Letter {
+        message: due_message(d),
+        servers: servers_of(counted.shards) as u32,
+    })
 }

@@ -16,8 +16,6 @@ use Rattle.rules.specs.Choice.{◌if◌else◌}
 use Rattle.rules.specs.Flags.{there}
 use Rattle.rules.specs.Cluster.{bad_number, bad_server}
 use Rattle.rules.specs.Ballots.{bad_ballot}
-use Rattle.rules.specs.Pieces.{touched_by}
-use Rattle.rules.proofs.TouchedWord.{kept_word}
 use Rattle.wire.specs.declared.Message.{Message}
 use Rattle.wire.specs.Codes.{shape_of, drive_takes, Prepare, Done}
 use Rattle.wire.specs.Faults.{bad_numbers, bad_pieces, bad_sets, over_count}
@@ -25,11 +23,7 @@ use Rattle.drive.specs.declared.Drive.{Drive}
 use Rattle.drive.specs.Held.{no_answer, counted, touched}
 use Rattle.drive.specs.Form.{formed}
 use Rattle.drive.specs.Hear.{not_taken, other_phase, misplaced, other_pieces, refusal}
-use Rattle.drive.proofs.FormParts.{formed_parts}
-use Rattle.drive_form.specs.declared.Walked.{Walked}
-use Rattle.drive_form.specs.Parts.{walked_to, formed_by}
-use Rattle.drive_form.proofs.Parts.{formed-by}
-use Rattle.drive_refusals.specs.Refusals.{bad_head, elsewhere, bad_held, first_of_three, done_by, judged_by, first_of}
+use Rattle.drive_refusals.specs.Refusals.{bad_head, elsewhere, bad_held, first_of_three, done_by, judged_by}
 
 -- ---- the codes that a drive takes
 
@@ -118,15 +112,19 @@ module _ (d : Drive) (full : length d.answers ≡ 12) (m : Message) where
       (λ other. not-judged other ∙ strange other)
       (true_or_false (drive_takes m.code))
 
-  -- of a drive in form the word has the shards that it touches
-  by_form : (b : Bool) → formed d ≡ b → first_of b (judged_by d.t d.ballot d.phase d.pieces (touched_by d.pieces) counts m) ≡ (13 if not b else in_order)
-  unfolding first_of
-  by_form true e = rw (kept_word d.pieces (formed_parts d e).pieces) judged-by
-  by_form false e = refl
-
-  pub refusal-by : first_of (formed d) (judged_by d.t d.ballot d.phase d.pieces (touched_by d.pieces) counts m) ≡ refusal d m
+  by_form : (b : Bool) → formed d ≡ b → (judged if b else 13) ≡ refusal d m
   unfolding refusal
-  refusal-by = by_form (formed d) refl
+  by_form true e = rw e judged-by
+  by_form false e = rw e
+
+  -- of a drive in form what is judged is the refusal
+  pub judged-refusal : formed d ≡ true → judged ≡ refusal d m
+  judged-refusal e = by_form true e
+
+-- 13 is first
+pub form-refusal : (d : Drive) (m : Message) → formed d ≡ false → 13 ≡ refusal d m
+unfolding refusal
+form-refusal d m e = rw e
 
 -- ---- of a reply that is not refused
 
@@ -139,10 +137,6 @@ none_fires false false false rest e = (refl, refl, refl)
 unfired : (d : Drive) (m : Message) → refusal d m ≡ 0 → (not (formed d) ≡ false) × (not_taken m ≡ false) × (bad_numbers m ≡ false)
 unfolding refusal
 unfired d m e = none_fires (not (formed d)) (not_taken m) (bad_numbers m) _ e
-
--- the drive is in form, so that the word has the shards that it touches
-pub taken-touched : (d : Drive) (m : Message) → refusal d m ≡ 0 → touched_by d.pieces ≡ touched d
-taken-touched d m e = kept_word d.pieces (formed_parts d (not_no (formed d) (unfired d m e).0)).pieces
 
 -- a server's reply has a server
 has-server : (k : ℕ) → drive_takes k ≡ true → eqb k Done ≡ false → (shape_of k).server ≡ true
@@ -172,16 +166,3 @@ ok_place d m e done = leb-false 12 m.server in_range
         ((shape_of m.code).prepared && there m.accepted.some && bad_ballot m.accepted.ballot)
         (eqb m.code Prepare && eqb m.ballot 0)
         (unfired d m e).2)
-
--- ---- from what the step computes
-
--- the number that the step finds, from the walk of the answers, is the refusal
-pub refusal_is : (d : Drive) → length d.answers ≡ 12 → (m : Message) {touches judged no : ℕ} {keeps : Bool} {l : Walked}
-    → touches ≡ touched_by d.pieces
-    → l ≡ walked_to d touches 12
-    → keeps ≡ formed_by d.t d.coordinator d.ballot d.phase d.seen d.chosen touches l
-    → judged ≡ judged_by d.t d.ballot d.phase d.pieces touches l.answered m
-    → no ≡ first_of keeps judged
-    → no ≡ refusal d m
-unfolding walked_to
-refusal_is d full m e₁ e₂ e₃ e₄ e₅ = e₅ ∙ rw (e₄, e₃, e₂, e₁, formed-by d) (refusal-by d full m)

@@ -65,7 +65,3 @@ module _ (t ballot phase : ℕ) (ps : Pieces) (touched w : ℕ) (m : Message) wh
       else first_of_three (head || bad_ballot m.promise) (eqb phase 3 || away) false if eqb m.code Behind
       else done_by t phase ps touched m.t m.pieces m.set if eqb m.code Done
       else 12
-
--- 13 before all of them
-unfoldable pub first_of : (formed : Bool) (judged : ℕ) → ℕ
-first_of formed judged = 13 if not formed else judged

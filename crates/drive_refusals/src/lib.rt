@@ -1,147 +1,123 @@
-// Which refusal a reply gets: the first test that fires gives its number, 0 is none. Each code has the tests of the fields that it has.
+// Which refusal a reply gets: the first test that fires. Each code has the tests of the fields that it has.
 #![tactic(auto)]
 
-ghost use Rattle.std.specs.Prelude.{◌≡◌};
-ghost use Rattle.drive_refusals.specs.Refusals.{bad_head, elsewhere, bad_held, first_of_three, done_by, judged_by, first_of};
+ghost use Rattle.std.specs.Prelude.{◌≡◌, IfOk, length};
+ghost use Rattle.rules.specs.Refusal.{told};
+ghost use Rattle.drive.specs.Hear.{refusal};
+ghost use Rattle.drive_form.specs.Parts.{counted_of};
+ghost use Rattle.drive_refusals.specs.Refusals.{bad_head, elsewhere, bad_held, first_of_three, done_by, judged_by};
 
+use drive::Drive;
 use drive_form::answers::addressed;
+use drive_form::{Counted, in_form};
 use messages::codes::{ACCEPT_OK, BEHIND, DONE, PRE_ACCEPT_OK, PREPARE_OK};
 use rules::ballots::bad_ballot;
 use rules::cluster::{bad_number, bad_server};
+use rules::refusals::Refusal;
 use rules::sets::bad_set;
-use rules::{MaybeVote, MaybeWord, Pieces, Set};
 use transaction::{pieces_kept, same_pieces, too_many};
 use wire::Message;
 
-// 1 of a server's reply: a number, server or ballot out of its range.
-fn bad_head(u: u32, server: u32, b: u32) -> bool
-    ensures { result ≡ bad_head u server b }
+// A server's reply has a number, server or ballot out of its range.
+#[tactic(auto, unfolding(crate::specs::Refusals::bad_head))]
+fn bad_head(m: &Message) -> bool
+    ensures { result ≡ bad_head m.now.t m.now.server m.now.ballot }
 {
-    bad_number(u) | bad_server(server) | bad_ballot(b)
+    bad_number(m.t) | bad_server(m.server) | bad_ballot(m.ballot)
 }
 
-// 8 of a server's reply: another number or ballot, or a server that is not one of the touched shards.
-fn elsewhere(t: u32, ballot: u32, shards: u64, u: u32, server: u32, b: u32) -> bool
-    ensures { result ≡ elsewhere t ballot shards u server b }
+// A server's reply is for another number or ballot, or from a server that is not one of the touched shards.
+#[tactic(auto, unfolding(crate::specs::Refusals::elsewhere))]
+fn elsewhere(d: &Drive, shards: u64, m: &Message) -> bool
+    ensures { result ≡ elsewhere d.now.t d.now.ballot shards m.now.t m.now.server m.now.ballot }
 {
-    !(u == t) | !(b == ballot) | !addressed(shards, server)
+    (m.t != d.t) | (m.ballot != d.ballot) | !addressed(shards, m.server)
 }
 
-// 3 of a PrepareOK: an arrival word or an accepted set that breaks its rule.
-fn bad_held(shards: u64, u: u32, arrival: MaybeWord, accepted: MaybeVote) -> bool
-    ensures { result ≡ bad_held shards u arrival accepted }
+// A PrepareOK has an arrival word or an accepted set that breaks its rule.
+#[tactic(auto, unfolding(crate::specs::Refusals::bad_held))]
+fn bad_held(shards: u64, m: &Message) -> bool
+    ensures { result ≡ bad_held shards m.now.t m.now.arrival m.now.accepted }
 {
-    let own = (arrival.some != 0) & masks::has(arrival.word, u as usize);
-    let voted = accepted.some != 0;
-    if voted {
-        return own | bad_set(u, shards, accepted.set);
-    }
-    own
+    ((m.arrival.some != 0) & masks::has(m.arrival.word, m.t as usize))
+        | ((m.accepted.some != 0) & bad_set(m.t, shards, m.accepted.set))
 }
 
-// 1, 8, 3 in this order.
-fn first(one: bool, eight: bool, three: bool) -> u32
-    ensures { result ≡ first_of_three one eight three }
+// Of a server's reply: a number out of its range, then its place, then its set.
+#[tactic(auto, unfolding(crate::specs::Refusals::first_of_three))]
+fn first(out_of_range: bool, misplaced: bool, bad_set: bool) -> Result<(), Refusal>
+    ensures { told result ≡ first_of_three out_of_range misplaced bad_set }
 {
-    if one {
-        return 1;
+    if out_of_range {
+        return Err(Refusal::OutOfRange);
     }
-    if eight {
-        return 8;
-    }
-    if three {
-        return 3;
-    }
-    0
-}
-
-// What is wrong with a Done for the number `u`: 12, 1, 2, 8, 5, 3.
-fn done_refusal(
-    t: u32,
-    phase: u32,
-    pieces: Pieces,
-    shards: u64,
-    u: u32,
-    others: Pieces,
-    set: Set,
-) -> u32
-    ensures { result ≡ done_by t phase pieces shards u others set }
-{
-    let over = too_many(others);
-    if over {
-        return 12;
-    }
-    let number = bad_number(u);
-    if number {
-        return 1;
-    }
-    let kept = pieces_kept(others);
-    if !kept {
-        return 2;
-    }
-    let misplaced = (phase == 3) | !(u == t);
     if misplaced {
-        return 8;
+        return Err(Refusal::Misplaced);
     }
-    let same = same_pieces(pieces, others);
-    if !same {
-        return 5;
+    if bad_set {
+        return Err(Refusal::BadSet);
     }
-    let broken = bad_set(u, shards, set);
-    if broken {
-        return 3;
+    Ok(())
+}
+
+// What is wrong with a Done.
+#[tactic(auto, unfolding(crate::specs::Refusals::done_by))]
+fn judge_done(d: &Drive, shards: u64, m: &Message) -> Result<(), Refusal>
+    ensures { told result ≡ done_by d.now.t d.now.phase d.now.pieces shards m.now.t m.now.pieces m.now.set }
+{
+    if too_many(m.pieces) {
+        return Err(Refusal::Unknown);
     }
-    0
+    if bad_number(m.t) {
+        return Err(Refusal::OutOfRange);
+    }
+    if !pieces_kept(m.pieces) {
+        return Err(Refusal::BadPieces);
+    }
+    if (d.phase == 3) | (m.t != d.t) {
+        return Err(Refusal::Misplaced);
+    }
+    if !same_pieces(d.pieces, m.pieces) {
+        return Err(Refusal::OtherPieces);
+    }
+    if bad_set(m.t, shards, m.set) {
+        return Err(Refusal::BadSet);
+    }
+    Ok(())
 }
 
 // What is wrong with a reply at this drive, by its code: an OK belongs to one phase, and its server is not counted yet; Behind and Done belong to any phase but 3, and Behind may come from a counted server.
-pub fn judge(
-    t: u32,
-    ballot: u32,
-    phase: u32,
-    pieces: Pieces,
-    shards: u64,
-    answered: u64,
-    m: Message,
-) -> u32
-    ensures { result ≡ judged_by t ballot phase pieces shards answered m }
+#[tactic(auto, unfolding(crate::specs::Refusals::judged_by))]
+pub fn judge(d: &Drive, counted: Counted, m: &Message) -> Result<(), Refusal>
+    ensures { told result ≡ judged_by d.now.t d.now.ballot d.now.phase d.now.pieces counted.shards counted.answered m.now }
 {
-    let arrived = m.code == PRE_ACCEPT_OK;
-    let accepted = m.code == ACCEPT_OK;
-    let prepared = m.code == PREPARE_OK;
-    let behind = m.code == BEHIND;
-    let done = m.code == DONE;
-    let head = bad_head(m.t, m.server, m.ballot);
-    let away = elsewhere(t, ballot, shards, m.t, m.server, m.ballot);
-    let again = masks::has(answered, m.server as usize);
-    if arrived {
-        let own = masks::has(m.word, m.t as usize);
-        return first(head, !(phase == 1) | away | again, own);
+    let head = bad_head(m);
+    let away = elsewhere(d, counted.shards, m);
+    let again = masks::has(counted.answered, m.server as usize);
+    match m.code {
+        PRE_ACCEPT_OK => {
+            let own = masks::has(m.word, m.t as usize);
+            first(head, (d.phase != 1) | away | again, own)
+        }
+        ACCEPT_OK => first(head, (d.phase != 2) | away | again, false),
+        PREPARE_OK => {
+            let vote = (m.accepted.some != 0) & bad_ballot(m.accepted.ballot);
+            let held = bad_held(counted.shards, m);
+            first(head | vote, (d.phase != 0) | away | again, held)
+        }
+        BEHIND => first(head | bad_ballot(m.promise), (d.phase == 3) | away, false),
+        DONE => judge_done(d, counted.shards, m),
+        _ => Err(Refusal::Unknown),
     }
-    if accepted {
-        return first(head, !(phase == 2) | away | again, false);
-    }
-    if prepared {
-        let vote = (m.accepted.some != 0) & bad_ballot(m.accepted.ballot);
-        let held = bad_held(shards, m.t, m.arrival, m.accepted);
-        return first(head | vote, !(phase == 0) | away | again, held);
-    }
-    if behind {
-        return first(head | bad_ballot(m.promise), (phase == 3) | away, false);
-    }
-    if done {
-        return done_refusal(t, phase, pieces, shards, m.t, m.pieces, m.set);
-    }
-    12
 }
 
-// 13 where the drive is not in form, else what is wrong with the reply.
-pub fn first_of(formed: bool, judged: u32) -> u32
-    ensures { result ≡ first_of formed judged }
+// Who is counted at a drive that takes the reply: it is in form, and nothing is wrong with the reply.
+pub fn admit(d: &Drive, m: &Message) -> Result<Counted, Refusal>
+    ensures refused { told result ≡ refusal d.now m.now }
+    ensures counted { IfOk result (λ c. c ≡ counted_of d.now) }
+    ensures whole { length d.now.answers ≡ 12 }
 {
-    let broken = !formed;
-    if broken {
-        return 13;
-    }
-    judged
+    let counted = in_form(d)?;
+    judge(d, counted, m)?;
+    Ok(counted)
 }

@@ -21,18 +21,15 @@ use Rattle.server_run.proofs.Turning.{run-once, run-until}
 use Rattle.server_lent.specs.Listed.{ran_planned}
 use Rattle.server_lent.proofs.RunsInPlace.{planned, planned-refusal, planned-many, planned-server}
 use Rattle.rules.specs.Flags.{there}
-use Rattle.drive.specs.declared.Drive.{Drive}
-use Rattle.drive_step.specs.declared.Weighed.{Weighed}
-use Rattle.drive_step.specs.Weighing.{turned, kept}
 use Rattle.door.specs.declared.Answer.{Answer}
 use Rattle.door.specs.declared.Taken.{Taken}
-use Rattle.door.specs.Exchange.{Exchange, take, heard_of, place_in, counting, answer_of, written_of, take_reply, weigh_reply}
+use Rattle.door.specs.Exchange.{Exchange, take, heard_of, place_in, counting, answer_of, written_of}
 use Rattle.door.specs.Told.{counted}
 use Rattle.door.specs.Readings.{result_in, result_reading, result_at, no_reading}
 use Rattle.station.specs.Commits.{plan_for, committed}
 use Rattle.server_read.proofs.Sizes.{Told}
 use Rattle.station.proofs.CommitTaken.{TypedDecoded, commit-taken}
-use Rattle.door.proofs.Stored.{place_in_below, take-told, take-written, take_below, take-refused, take_left, weigh-reply-told, weigh-reply-below, weigh-reply-refused, weigh-reply-turned, weigh-reply-kept}
+use Rattle.door.proofs.Stored.{place_in_below, take-told, take-written, take_below, take-refused, take_left}
 
 -- ---- `drobulets_server_take`
 
@@ -143,24 +140,3 @@ module _ (s : Server) (t place : ℕ) where
       go : (b : Bool) → ltb t 64 ≡ b → cond b (result_in (record_at s (place_of t)) place) no_reading ≡ cond b (result_in (record_at s t) place) no_reading
       go true e = rw (lt-leb 64 t (ltb-true t 64 e))
       go false e = refl
-
--- ---- `drobulets_drive_take`
-
-module _ (d : Drive) (input : List ℕ) where
-  abbrev o : Weighed
-  o = weigh_reply d input
-
-  pub drive-take-told : o.refusal ≡ (take_reply d input).refusal
-  drive-take-told = weigh-reply-told d input
-
-  pub drive-take-place-below : o.place < 12
-  drive-take-place-below = weigh-reply-below d input
-
-  pub drive-take-left-refused : there o.refusal ≡ true → d ≡ (take_reply d input).drive
-  drive-take-left-refused = weigh-reply-refused d input
-
-  pub drive-take-left-turns : there o.refusal ≡ false → o.turns ≡ true → turned o ≡ (take_reply d input).drive
-  drive-take-left-turns = weigh-reply-turned d input
-
-  pub drive-take-left : there o.refusal ≡ false → o.turns ≡ false → kept d o.place o.answer o.seen ≡ (take_reply d input).drive
-  drive-take-left = weigh-reply-kept d input

@@ -2,14 +2,14 @@
 use Rattle.drive_decide.specs.Turns.{turn0}
 use Rattle.drive_decide.proofs.decide0.Goals as goal
 
-pub returns-then-held : goal.returns-then-held
+pub returns-in-Some : goal.returns-in-Some
 unfolding turn0
-returns-then-held c = rw (c.to.ensures, c.if-held.true)
+returns-in-Some c = rw (c.to.ensures, c.in-Some.is)
 
-pub returns-then-equal : goal.returns-then-equal
+pub returns-then-words : goal.returns-then-words
 unfolding turn0
-returns-then-equal c = rw (c.to-then-equal.ensures, c.if-held.false, c.if-equal.true)
+returns-then-words c = rw (c.to-then-words.ensures, c.in-None.is, c.if-words.true)
 
-pub returns : goal.returns
+pub returns-else-words : goal.returns-else-words
 unfolding turn0
-returns c = rw (c.if-held.false, c.if-equal.false)
+returns-else-words c = rw (c.to_phase1.ensures, c.in-None.is, c.if-words.false)

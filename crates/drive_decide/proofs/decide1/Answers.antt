@@ -6,8 +6,8 @@ use Rattle.drive_decide.proofs.decide1.Goals as goal
 
 pub returns-then-fast : goal.returns-then-fast
 unfolding turn1
-returns-then-fast c = let h : (c.args.first && c.args.all && c.args.equal) ≡ true = c.if-fast.true in rw (c.to.ensures, h)
+returns-then-fast c = let h : (c.args.first && c.args.all && c.args.words.equal) ≡ true = c.if-fast.true in rw (c.to.ensures, h)
 
-pub returns : goal.returns
+pub returns-else-fast : goal.returns-else-fast
 unfolding turn1
-returns c = let h : (c.args.first && c.args.all && c.args.equal) ≡ false = c.if-fast.false in rw (c.to-2.ensures, h)
+returns-else-fast c = let h : (c.args.first && c.args.all && c.args.words.equal) ≡ false = c.if-fast.false in rw (c.to-else-fast.ensures, h)

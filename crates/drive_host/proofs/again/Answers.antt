@@ -1,22 +1,40 @@
--- `drive_host::again` meets its contract: refused, or begun at the next ballot, which is one. Assumes nothing.
-use mathlib.Core.Path.{◌≡◌, sym, ◌∙◌}
-use mathlib.Core.Bool.{not}
-use Prim.Native.Nat.{◌≤◌}
-use native.Mathlib.Omega.{arith}
-use borrow.Author.Tests.{eqb-true}
-use lib.Dec.{eqb}
-use Rattle.drive.specs.Host.{again_refusal, again}
-use Rattle.drive_host.proofs.Unless.{taken, not_taken_lem, last_of_three}
-use Rattle.rules.proofs.NextIsSmallest.{not-past}
+-- `drive_host::again` meets its contract: a drive in form has a coordinator, so that the next ballot is refused for want of one alone. Assumes nothing.
+use borrow.Author.Tests.{ne_eqb}
+use Rattle.drive.specs.Host.{unless, again_refusal, again}
+use Rattle.drive_form.proofs.InForm.{kept}
+use Rattle.drive.proofs.Told.{passed_on}
+use Rattle.drive_host.proofs.NextBallots.{own_coordinator, none_left, one-left}
 use Rattle.drive_host.proofs.again.Goals as goal
 
-pub overflow_cast-ballot : goal.overflow_cast-ballot
-overflow_cast-ballot c = let b : c.next_above-ballot.result ≤ 65535 = rw c.next_above-ballot.ensures (not-past c.args.d.coordinator c.higher-above.result (sym c.no_next.ensures ∙ last_of_three (not c.formed.result) (eqb c.args.d.phase 3) c.no_next.result (sym c.again_refusal-no.ensures ∙ eqb-true _ 0 c.if-taken.true-raw))) in omega arith
+pub returns-in_err-ballot-clause-refused : goal.returns-in_err-ballot-clause-refused
+unfolding again again_refusal unless
+returns-in_err-ballot-clause-refused c =
+    let d = c.args.d.now in
+    let k = kept d c.in_ok-in_form.ensures.in_form in
+    let x = c.in_err-ballot.field-0.0 in
+    let none = none_left _ _ (own_coordinator d k.0) x (rw c.max.ensures at c.in_err-ballot.ensures) in
+    passed_on c.from_residual-in_err-ballot.result x c.from_residual-in_err-ballot.ensures.1 (rw (k.0, ne_eqb _ 3 c.if-d-eq3.false, none.0) none.1)
 
-pub returns-then-taken : goal.returns-then-taken
-unfolding again again_refusal
-returns-then-taken c = let is : c.again_refusal-no.result ≡ again_refusal c.args.d = rw (c.again_refusal-no.ensures, c.no_next.ensures, c.higher-above.ensures, c.formed.ensures) in rw (c.began-fresh.ensures, c.next_above-ballot.ensures, c.higher-above.ensures) (taken c.args.d _ is c.if-taken.true-raw)
+pub returns-in_err-ballot-clause-again : goal.returns-in_err-ballot-clause-again
+unfolding again again_refusal unless
+returns-in_err-ballot-clause-again c =
+    let d = c.args.d.now in
+    let k = kept d c.in_ok-in_form.ensures.in_form in
+    let none = none_left _ _ (own_coordinator d k.0) c.in_err-ballot.field-0.0 (rw c.max.ensures at c.in_err-ballot.ensures) in
+    rw (k.0, ne_eqb _ 3 c.if-d-eq3.false, none.0)
 
-pub returns : goal.returns
-unfolding again again_refusal
-returns c = let is : c.again_refusal-no.result ≡ again_refusal c.args.d = rw (c.again_refusal-no.ensures, c.no_next.ensures, c.higher-above.ensures, c.formed.ensures) in not_taken_lem c.args.d _ is c.if-taken.false-raw
+pub returns-clause-refused : goal.returns-clause-refused
+unfolding again again_refusal unless
+returns-clause-refused c =
+    let d = c.args.d.now in
+    let k = kept d c.in_ok-in_form.ensures.in_form in
+    let one = one-left _ _ (own_coordinator d k.0) c.in_ok-ballot.ballot.number (rw c.max.ensures at c.in_ok-ballot.ensures) in
+    rw (k.0, ne_eqb _ 3 c.if-d-eq3.false, one.0)
+
+pub returns-clause-again : goal.returns-clause-again
+unfolding again again_refusal unless
+returns-clause-again c =
+    let d = c.args.d.now in
+    let k = kept d c.in_ok-in_form.ensures.in_form in
+    let one = one-left _ _ (own_coordinator d k.0) c.in_ok-ballot.ballot.number (rw c.max.ensures at c.in_ok-ballot.ensures) in
+    rw (k.0, ne_eqb _ 3 c.if-d-eq3.false, one.0, c.began.ensures, one.1)

@@ -1,20 +1,31 @@
 -- `drive_step::hear` meets its contract: what the reply comes to is stored, as Outcomes says. Assumes nothing.
-use mathlib.Core.Path.{sym, ◌∙◌}
-use native.Mathlib.Omega.{arith}
-use Rattle.drive_step.proofs.Outcomes.{as_lent, new-phase, one_answer, in_place}
+use Rattle.std.proofs.Common.{◌<◌, ◌∙◌, sym, arith}
+use Rattle.drive.proofs.Told.{passed_on}
+use Rattle.drive_step.proofs.Outcomes.{placed, hears-told, hears-refused, hears-taken}
 use Rattle.drive_step.proofs.hear.Goals as goal
 
-pub returns-then-refused : goal.returns-then-refused
-returns-then-refused c = as_lent _ _ _ c.weigh-w.ensures (sym c.refused-refused.ensures ∙ c.if-refused.true)
+pub returns-in_err-turn-clause-refused : goal.returns-in_err-turn-clause-refused
+returns-in_err-turn-clause-refused c = passed_on c.from_residual.result c.in_err-turn.field-0.0 c.from_residual.ensures.1 (c.in_err-turn.ensures.refused ∙ hears-told _ _)
 
-pub returns-then-turns : goal.returns-then-turns
-returns-then-turns c = rw c.turned.ensures (new-phase _ _ _ c.weigh-w.ensures (sym c.refused-refused.ensures ∙ c.if-refused.false) (sym c.turns-turns.ensures ∙ c.if-turns.true))
+pub returns-in_err-turn-clause-heard : goal.returns-in_err-turn-clause-heard
+returns-in_err-turn-clause-heard c = hears-refused _ _ c.in_err-turn.field-0.0 c.in_err-turn.ensures.refused
 
-pub offset_bounds-n-i : goal.offset_bounds-n-i
-offset_bounds-n-i c = let h = in_place _ _ _ c.weigh-w.ensures in omega arith
+pub offset_bounds-d-place : goal.offset_bounds-d-place
+offset_bounds-d-place c =
+    let l : c.in-Kept.place < 12 = rw (← c.in_ok-turn.ensures.taken, c.in-Kept.is) at (placed c.args.d.now c.args.m.now (sym c.in_ok-turn.ensures.refused)) in
+    omega arith
 
-pub bounds-n-i : goal.bounds-n-i
-bounds-n-i c = in_place _ _ _ c.weigh-w.ensures
+pub bounds-d-place : goal.bounds-d-place
+bounds-d-place c = rw (← c.in_ok-turn.ensures.taken, c.in-Kept.is) at (placed c.args.d.now c.args.m.now (sym c.in_ok-turn.ensures.refused))
 
-pub returns : goal.returns
-returns c = one_answer _ _ _ c.weigh-w.ensures (sym c.refused-refused.ensures ∙ c.if-refused.false) (sym c.turns-turns.ensures ∙ c.if-turns.false)
+pub returns-in-Turned-clause-refused : goal.returns-in-Turned-clause-refused
+returns-in-Turned-clause-refused c = c.in_ok-turn.ensures.refused ∙ hears-told _ _
+
+pub returns-in-Turned-clause-heard : goal.returns-in-Turned-clause-heard
+returns-in-Turned-clause-heard c = c.begin.ensures ∙ hears-taken _ _ c.in_ok-turn.ensures.refused (sym c.in-Turned.is ∙ c.in_ok-turn.ensures.taken)
+
+pub returns-in-Kept-clause-refused : goal.returns-in-Kept-clause-refused
+returns-in-Kept-clause-refused c = c.in_ok-turn.ensures.refused ∙ hears-told _ _
+
+pub returns-in-Kept-clause-heard : goal.returns-in-Kept-clause-heard
+returns-in-Kept-clause-heard c = hears-taken _ _ c.in_ok-turn.ensures.refused (sym c.in-Kept.is ∙ c.in_ok-turn.ensures.taken)

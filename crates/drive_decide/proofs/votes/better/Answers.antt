@@ -1,17 +1,29 @@
 -- `drive_decide::votes::better` meets its contract: by its tests. Assumes nothing.
-use mathlib.Core.Path.{◌≡◌}
-use mathlib.Core.Bool.{true, false}
+use Rattle.std.proofs.Common.{◌≡◌, ◌<◌, true, false, arith}
 use lib.Dec.{ltb}
+use borrow.Author.Tests.{ne_eqb, lt-ltb, le-ltb}
+use Rattle.drive.specs.Held.{answer_at}
+use Rattle.drive.specs.Decide.{better}
 use Rattle.drive_decide.proofs.votes.better.Goals as goal
 
-pub returns-then-empty : goal.returns-then-empty
-returns-then-empty c = rw (← c.has_accepted-empty.ensures, c.if-empty.true-raw)
+pub returns-then-not-has_accepted-clause-higher : goal.returns-then-not-has_accepted-clause-higher
+unfolding better
+returns-then-not-has_accepted-clause-higher c = rw (← c.has_accepted.ensures, c.if-not-has_accepted.true)
 
-pub returns-then-first : goal.returns-then-first
-returns-then-first c = rw (← c.has_accepted-empty.ensures, c.if-empty.false-raw, c.if-first.true-raw)
+pub returns-in-None-clause-higher : goal.returns-in-None-clause-higher
+unfolding better
+returns-in-None-clause-higher c = rw (← c.has_accepted.ensures, c.if-not-has_accepted.false, c.in-None.is)
 
-pub returns-then-higher : goal.returns-then-higher
-returns-then-higher c = let h : ltb c.args.b.accepted.ballot c.args.a.accepted.ballot ≡ true = c.if-higher.true-raw in rw (← c.has_accepted-empty.ensures, c.if-empty.false-raw, c.if-first.false-raw, h)
+pub returns-then-d-b-clause-higher : goal.returns-then-d-b-clause-higher
+unfolding better
+returns-then-d-b-clause-higher c =
+    let l : c.in-Some.b < 12 = rw c.in-Some.is at c.requires.best_in_range in
+    let higher : ltb (answer_at c.args.d.now c.in-Some.b).accepted.ballot (answer_at c.args.d.now c.args.s).accepted.ballot ≡ true = lt-ltb _ _ c.if-d-b.true in
+    rw (← c.has_accepted.ensures, c.if-not-has_accepted.false, c.in-Some.is, ne_eqb c.in-Some.b 12 (λ e. omega arith), higher)
 
-pub returns : goal.returns
-returns c = let h : ltb c.args.b.accepted.ballot c.args.a.accepted.ballot ≡ false = c.if-higher.false-raw in rw (← c.has_accepted-empty.ensures, c.if-empty.false-raw, c.if-first.false-raw, h)
+pub returns-else-d-b-clause-higher : goal.returns-else-d-b-clause-higher
+unfolding better
+returns-else-d-b-clause-higher c =
+    let l : c.in-Some.b < 12 = rw c.in-Some.is at c.requires.best_in_range in
+    let higher : ltb (answer_at c.args.d.now c.in-Some.b).accepted.ballot (answer_at c.args.d.now c.args.s).accepted.ballot ≡ false = le-ltb _ _ c.if-d-b.false in
+    rw (← c.has_accepted.ensures, c.if-not-has_accepted.false, c.in-Some.is, ne_eqb c.in-Some.b 12 (λ e. omega arith), higher)

@@ -4,7 +4,7 @@ use Rattle.drive_decide.proofs.Wording.{silent}
 use Rattle.drive_decide.proofs.words.in_shard.Goals as goal
 
 pub returns-then-silent : goal.returns-then-silent
-returns-then-silent c = silent c.args.a c.args.b c.args.c c.if-silent.true
+returns-then-silent c = silent c.args.a.now c.args.b.now c.args.c.now c.if-silent.true
 
 pub returns : goal.returns
 unfolding union

@@ -3,4 +3,4 @@ use Rattle.drive_decide.proofs.Wording.{words-four}
 use Rattle.drive_decide.proofs.words.of_drive.Goals as goal
 
 pub returns : goal.returns
-returns c = rw (c.in_all.ensures, c.in_shard-k3.ensures, c.in_shard-k2.ensures, c.in_shard-k1.ensures, c.in_shard-k0.ensures) (words-four _)
+returns c = rw (c.in_all.ensures, c.in_shard-4.ensures, c.in_shard-3.ensures, c.in_shard-2.ensures, c.in_shard.ensures) (words-four _)
