@@ -1,4 +1,3 @@
-pub mod Arrays
 pub mod Places
 pub mod InPlace
 pub mod Rows
