@@ -1,19 +1,20 @@
 // What each message does to the record of its T at the server `id`, and the reply.
 ghost use Rattle.std.specs.Prelude.{◌≡◌};
 ghost use Rattle.server.specs.Changes.{promised, asked, arrive, pre_accepted, accepted, prepared, committed, inquired, fetched, change};
+ghost use Rattle.server.specs.declared.Changed.{Changed};
 
 use messages::codes::{ACCEPT, COMMIT, DONE, INQUIRE, PRE_ACCEPT, PREPARE};
+use messages::replies;
 use rules::{MaybeSet, MaybeVote, MaybeWord};
 use server::{Changed, Record};
 use wire::Message;
 
 // The ballot is promised, and the pieces are held.
-fn promised(m: Message, v: Record) -> Record
-    ensures { result ≡ promised m v }
+fn promised(m: &Message, v: &Record) -> Record
+    ensures { result ≡ promised m.now v.now }
 {
-    let mut n = v;
-    let pieces = m.pieces;
-    n.pieces = pieces;
+    let mut n = *v;
+    n.pieces = m.pieces;
     n.promise = m.ballot;
     n
 }
@@ -22,178 +23,111 @@ fn promised(m: Message, v: Record) -> Record
 fn arrive(w: u64, v: Record) -> Record
     ensures { result ≡ arrive w v }
 {
-    let arrived = v.arrival.some != 0;
-    if arrived {
-        return v;
-    }
-    let arrival = MaybeWord { some: 1, word: w };
     let mut n = v;
-    n.arrival = arrival;
+    if n.arrival.some == 0 {
+        n.arrival = MaybeWord { some: 1, word: w };
+    }
     n
 }
 
-// A committed T is answered Done, and a ballot below the promise Behind, and neither changes anything; else `c`.
-fn asked(id: u32, v: Record, m: Message, c: Changed) -> Changed
-    ensures { result ≡ asked id v m c }
+// A committed T is answered Done, and a ballot below the promise Behind, and neither changes anything; else what `change` does.
+fn asked<F: FnOnce() -> Changed>(id: u32, v: &Record, m: &Message, change: F) -> Changed
+    requires { F.IsAlwaysCallable change }
+    ensures { (c : Changed) → ((x : Changed) → F.post change x → x ≡ c) → result ≡ asked id v.now m.now c }
 {
-    let settled = v.committed.some != 0;
-    let late = m.ballot < v.promise;
-    if settled {
-        let pieces = v.pieces;
-        let set = v.committed.set;
-        let reply = messages::replies::done(m.t, pieces, set);
-        return Changed {
-            after: v,
-            reply: reply,
-        };
+    if v.committed.some != 0 {
+        let reply = replies::done(m.t, v.pieces, v.committed.set);
+        return Changed { after: *v, reply };
     }
-    if late {
-        let reply = messages::replies::behind(m.t, id, m.ballot, v.promise);
-        return Changed {
-            after: v,
-            reply: reply,
-        };
+    if m.ballot < v.promise {
+        let reply = replies::behind(m.t, id, m.ballot, v.promise);
+        return Changed { after: *v, reply };
     }
-    c
+    change()
 }
 
 // The arrival set is answered; what is accepted stays.
-fn pre_accepted(id: u32, w: u64, v: Record, m: Message) -> Changed
-    ensures { result ≡ pre_accepted id w v m }
+fn pre_accepted(id: u32, w: u64, v: &Record, m: &Message) -> Changed
+    ensures { result ≡ pre_accepted id w v.now m.now }
 {
-    let held = promised(m, v);
-    let after = arrive(w, held);
-    let reply = messages::replies::pre_accept_ok(m.t, id, m.ballot, after.arrival.word);
-    Changed {
-        after: after,
-        reply: reply,
-    }
+    let after = arrive(w, promised(m, v));
+    let reply = replies::pre_accept_ok(m.t, id, m.ballot, after.arrival.word);
+    Changed { after, reply }
 }
 
 // Ballot and set are held as accepted.
-fn accepted(id: u32, v: Record, m: Message) -> Changed
-    ensures { result ≡ accepted id v m }
+fn accepted(id: u32, v: &Record, m: &Message) -> Changed
+    ensures { result ≡ accepted id v.now m.now }
 {
     let mut after = promised(m, v);
-    let set = m.set;
-    let vote = MaybeVote {
+    after.accepted = MaybeVote {
         some: 1,
         ballot: m.ballot,
-        set: set,
+        set: m.set,
     };
-    after.accepted = vote;
-    let reply = messages::replies::accept_ok(m.t, id, m.ballot);
-    Changed {
-        after: after,
-        reply: reply,
-    }
+    let reply = replies::accept_ok(m.t, id, m.ballot);
+    Changed { after, reply }
 }
 
 // The answer says what arrived and what is accepted.
-fn prepared(id: u32, v: Record, m: Message) -> Changed
-    ensures { result ≡ prepared id v m }
+fn prepared(id: u32, v: &Record, m: &Message) -> Changed
+    ensures { result ≡ prepared id v.now m.now }
 {
-    let arrival = v.arrival;
-    let accepted = v.accepted;
     let after = promised(m, v);
-    let reply = messages::replies::prepare_ok(m.t, id, m.ballot, arrival, accepted);
-    Changed {
-        after: after,
-        reply: reply,
-    }
+    let reply = replies::prepare_ok(m.t, id, m.ballot, v.arrival, v.accepted);
+    Changed { after, reply }
 }
 
 // Pieces and set are held as committed; a repeat changes nothing. Nothing has run yet: whoever runs puts the count into the reply.
-fn committed(id: u32, v: Record, m: Message) -> Changed
-    ensures { result ≡ committed id v m }
+fn committed(id: u32, v: &Record, m: &Message) -> Changed
+    ensures { result ≡ committed id v.now m.now }
 {
-    let repeat = v.committed.some != 0;
-    let reply = messages::replies::commit_ok(m.t, id, 0);
-    if repeat {
-        return Changed {
-            after: v,
-            reply: reply,
+    let mut after = *v;
+    if v.committed.some == 0 {
+        after.pieces = m.pieces;
+        after.committed = MaybeSet {
+            some: 1,
+            set: m.set,
         };
     }
-    let pieces = m.pieces;
-    let set = m.set;
-    let deps = MaybeSet { some: 1, set: set };
-    let mut after = v;
-    after.pieces = pieces;
-    after.committed = deps;
-    Changed {
-        after: after,
-        reply: reply,
-    }
+    let reply = replies::commit_ok(m.t, id, 0);
+    Changed { after, reply }
 }
 
 // Done if T is committed, else NotYet.
-fn inquired(id: u32, v: Record, m: Message) -> Changed
-    ensures { result ≡ inquired id v m }
+fn inquired(id: u32, v: &Record, m: &Message) -> Changed
+    ensures { result ≡ inquired id v.now m.now }
 {
-    let committed = v.committed.some != 0;
-    if committed {
-        let pieces = v.pieces;
-        let set = v.committed.set;
-        let reply = messages::replies::done(m.t, pieces, set);
-        return Changed {
-            after: v,
-            reply: reply,
-        };
-    }
-    let reply = messages::replies::not_yet(m.t, id);
-    Changed {
-        after: v,
-        reply: reply,
-    }
+    let reply = if v.committed.some != 0 {
+        replies::done(m.t, v.pieces, v.committed.set)
+    } else {
+        replies::not_yet(m.t, id)
+    };
+    Changed { after: *v, reply }
 }
 
 // The results once T has run, else NotYet.
-fn fetched(id: u32, v: Record, m: Message) -> Changed
-    ensures { result ≡ fetched id v m }
+fn fetched(id: u32, v: &Record, m: &Message) -> Changed
+    ensures { result ≡ fetched id v.now m.now }
 {
-    let ran = v.ran != 0;
-    if ran {
-        let values = v.values;
-        let reply = messages::replies::results(m.t, id, values);
-        return Changed {
-            after: v,
-            reply: reply,
-        };
-    }
-    let reply = messages::replies::not_yet(m.t, id);
-    Changed {
-        after: v,
-        reply: reply,
-    }
+    let reply = if v.ran != 0 {
+        replies::results(m.t, id, v.values)
+    } else {
+        replies::not_yet(m.t, id)
+    };
+    Changed { after: *v, reply }
 }
 
 // The message's own change; `w` is the arrival set that a PreAccept fixes.
-pub fn change(id: u32, w: u64, v: Record, m: Message) -> Changed
-    ensures { result ≡ change id w v m }
+pub fn change(id: u32, w: u64, v: &Record, m: &Message) -> Changed
+    ensures { result ≡ change id w v.now m.now }
 {
-    let pre_accept = m.code == PRE_ACCEPT;
-    let accept = m.code == ACCEPT;
-    let prepare = m.code == PREPARE;
-    let commit = (m.code == COMMIT) | (m.code == DONE);
-    let inquire = m.code == INQUIRE;
-    if pre_accept {
-        let c = pre_accepted(id, w, v, m);
-        return asked(id, v, m, c);
+    match m.code {
+        PRE_ACCEPT => asked(id, v, m, || pre_accepted(id, w, v, m)),
+        ACCEPT => asked(id, v, m, || accepted(id, v, m)),
+        PREPARE => asked(id, v, m, || prepared(id, v, m)),
+        COMMIT | DONE => committed(id, v, m),
+        INQUIRE => inquired(id, v, m),
+        _ => fetched(id, v, m),
     }
-    if accept {
-        let c = accepted(id, v, m);
-        return asked(id, v, m, c);
-    }
-    if prepare {
-        let c = prepared(id, v, m);
-        return asked(id, v, m, c);
-    }
-    if commit {
-        return committed(id, v, m);
-    }
-    if inquire {
-        return inquired(id, v, m);
-    }
-    fetched(id, v, m)
 }

@@ -1,18 +1,18 @@
 -- The form read in one pass is the form. The log's word holds the numbers among its entries, so what the form asks of each entry is asked of
 -- each number in that word, with the record of that number. Assumes nothing.
-use Prim.Native.Nat.{ℕ, zero, suc, ◌+◌, ◌<◌}
+use Prim.Native.Nat.{ℕ, zero, suc, ◌+◌, ◌<◌, ◌≤◌}
 use mathlib.Core.Path.{◌≡◌, refl, sym, ap, ◌∙◌}
 use mathlib.Core.Logic.{⊎_elim}
 use mathlib.Core.Bool.{Bool, true, false, not, cond, ◌&&◌, ◌||◌, and_assoc, and-true, and-false}
 use native.Mathlib.Omega.{arith}
 use lib.Dec.{leb, eqb}
-use borrow.Author.Tests.{leb-true, eqb-true, eq-eqb}
+use borrow.Author.Tests.{leb-true, eqb-true, eq-eqb, lt-leb, le-leb}
 use Rattle.masks.specs.Bits.{has, insert, within}
 use Rattle.masks.specs.Folds.{all_below, any_below, iter}
-use Rattle.masks.proofs.Bools.{and_yes, and_yes-l, and_yes_r, true_or_false, bool_ext}
+use Rattle.masks.proofs.Bools.{and_yes, and_yes-l, and_yes_r, and_no_r, true_or_false, bool_ext}
 use Rattle.masks.proofs.Turns.{all_none, all-step, iter-none, iter-step}
 use Rattle.masks.proofs.Laws.{has-none, has-put}
-use Rattle.masks.proofs.FoldLaws.{all_at, all_of, all_cong, all_both, any_at, any_of}
+use Rattle.masks.proofs.FoldLaws.{all_at, no_all, all_of, all_cong, all_both, any_at, any_of}
 use Rattle.rules.specs.Flags.{implies}
 use Rattle.rules.specs.Cluster.{bad_server}
 use Rattle.rules.specs.Sets.{members}
@@ -42,6 +42,37 @@ logged-has l zero t = has-none t
 logged-has l (suc n) t =
     has-put (logged l n) (entry_at l n) t (leb (entry_at l n) 63)
     ∙ ap (λ (b : Bool). b || is_number l t n) (logged-has l n t)
+
+-- the log as it is read: too long, broken at the entry i, whole, or fine so far
+module _ (l : Log) where
+  pub log-long : 64 < l.count → (read_log l).fine ≡ false
+  unfolding read_log
+  log-long h = rw (lt-leb l.count 64 h)
+
+  pub log-broken : l.count ≤ 64 → (i : ℕ) → i < l.count → entry_new l i ≡ false → (read_log l).fine ≡ false
+  unfolding read_log
+  log-broken h i less e = rw (le-leb l.count 64 h) (no_all (entry_new l) l.count i less e)
+
+  pub log_whole : l.count ≤ 64 → (i : ℕ) → i ≡ l.count → all_below (entry_new l) i ≡ true → ((read_log l).fine ≡ true) × (logged l i ≡ (read_log l).word)
+  unfolding read_log
+  log_whole h i e f = rw (le-leb l.count 64 h) (ap (all_below (entry_new l)) (sym e) ∙ f, ap (logged l) e)
+
+  module _ (i entry : ℕ) (here : entry ≡ entry_at l i) where
+    pub large-entry : 64 ≤ entry → entry_new l i ≡ false
+    unfolding entry_new
+    large-entry h = rw (← here, lt-leb entry 63 (omega (arith, h)))
+
+    pub entry-again : has (logged l i) entry ≡ true → entry_new l i ≡ false
+    unfolding entry_new
+    entry-again h = rw (← here) (and_no_r (leb entry 63) _ (ap not h))
+
+    pub entry-more : entry < 64 → has (logged l i) entry ≡ false → all_below (entry_new l) i ≡ true
+        → (all_below (entry_new l) (i + 1) ≡ true) × (insert (logged l i) entry ≡ logged l (i + 1))
+    unfolding entry_new
+    entry-more h n e = (
+      rw (all-step, e, ← here, le-leb entry 63 (omega (arith, h)), n),
+      rw (logged-step l i, ← here, le-leb entry 63 (omega (arith, h))),
+    )
 
 implied : (a b : Bool) → (a ≡ true → b ≡ true) → implies a b ≡ true
 implied true b h = h refl

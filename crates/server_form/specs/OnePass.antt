@@ -13,13 +13,17 @@ use Rattle.server.specs.declared.Log.{Log}
 use Rattle.server.specs.declared.Server.{Server}
 use Rattle.server.specs.Held.{record_at, shard, entry_at}
 use Rattle.server.specs.Form.{logged, record_formed, results_formed}
-use Rattle.server_form.specs.declared.LogRead.{LogRead}
 
 -- ---- the log by itself
 
 -- a number, and not among those before it
 unfoldable pub entry_new : Log → ℕ → Bool
 entry_new l i = leb (entry_at l i) 63 && not (has (logged l i) (entry_at l i))
+
+-- what the log says: its numbers, and whether it is a log
+pub record LogRead : Type 0 where
+  pub word : ℕ
+  pub fine : Bool
 
 -- its numbers as a word, and whether there are at most 64, each of them a number and none twice
 unfoldable pub read_log : Log → LogRead

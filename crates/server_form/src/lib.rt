@@ -3,10 +3,3 @@
 
 pub mod log; // log.rt: the log's numbers as a word
 pub mod number; // number.rt: the record and the results of one number
-
-// What the log says by itself: its numbers, and whether it is a log.
-#[derive(Clone, Copy)]
-pub struct LogRead {
-    pub word: u64,
-    pub fine: bool,
-}

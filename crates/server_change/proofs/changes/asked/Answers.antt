@@ -1,17 +1,16 @@
 -- `changes::asked` meets its contract. Assumes nothing.
-use Rattle.std.proofs.Common.{ap, not}
-use borrow.Author.Tests.{ne_eqb, eq-eqb, lt-ltb, le-ltb}
+use borrow.Author.Tests.{eq-eqb, ne_eqb, lt-ltb, le-ltb}
 use Rattle.server.specs.Changes.{asked}
 use Rattle.server_change.proofs.changes.asked.Goals as goal
 
-pub returns-then-settled : goal.returns-then-settled
+pub returns-then-v-ne0 : goal.returns-then-v-ne0
 unfolding asked
-returns-then-settled c = rw (c.done-reply.ensures, ap not (ne_eqb _ 0 c.if-settled.true))
+returns-then-v-ne0 g c = λ d is. rw (c.done-reply.ensures, ne_eqb _ 0 c.if-v-ne0.true)
 
-pub returns-then-late : goal.returns-then-late
+pub returns-then-m-v : goal.returns-then-m-v
 unfolding asked
-returns-then-late c = rw (c.behind-reply.ensures, ap not (eq-eqb _ 0 c.if-settled.false), lt-ltb _ _ c.if-late.true)
+returns-then-m-v g c = λ d is. rw (c.behind-reply.ensures, eq-eqb _ 0 c.if-v-ne0.false, lt-ltb _ _ c.if-m-v.true)
 
 pub returns : goal.returns
 unfolding asked
-returns c = rw (ap not (eq-eqb _ 0 c.if-settled.false), le-ltb _ _ c.if-late.false)
+returns g c = λ d is. rw (eq-eqb _ 0 c.if-v-ne0.false, le-ltb _ _ c.if-m-v.false) (is c.change.result c.change.ensures)

@@ -1,11 +1,13 @@
 -- `changes::fetched` meets its contract. Assumes nothing.
+use borrow.Author.Tests.{eq-eqb, ne_eqb}
 use Rattle.server.specs.Changes.{fetched}
 use Rattle.server_change.proofs.changes.fetched.Goals as goal
-
-pub returns-then-ran : goal.returns-then-ran
-unfolding fetched
-returns-then-ran c = rw (c.results-reply.ensures, c.if-ran.true-raw)
+use Rattle.server_change.proofs.changes.fetched.Goals.{then-v-ne0, else-v-ne0}
 
 pub returns : goal.returns
 unfolding fetched
-returns c = rw (c.not_yet-reply.ensures, c.if-ran.false-raw)
+returns c =
+    elim c.if-v-ne0.branch [
+      | then-v-ne0 w ↦ rw (w.reply-is, w.results-reply.ensures, ne_eqb _ 0 w.if-v-ne0.true)
+      | else-v-ne0 w ↦ rw (w.reply-is, w.not_yet-reply.ensures, eq-eqb _ 0 w.if-v-ne0.false)
+    ]

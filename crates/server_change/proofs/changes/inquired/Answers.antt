@@ -1,11 +1,13 @@
 -- `changes::inquired` meets its contract. Assumes nothing.
+use borrow.Author.Tests.{eq-eqb, ne_eqb}
 use Rattle.server.specs.Changes.{inquired}
 use Rattle.server_change.proofs.changes.inquired.Goals as goal
-
-pub returns-then-committed : goal.returns-then-committed
-unfolding inquired
-returns-then-committed c = rw (c.done-reply.ensures, c.if-committed.true-raw)
+use Rattle.server_change.proofs.changes.inquired.Goals.{then-v-ne0, else-v-ne0}
 
 pub returns : goal.returns
 unfolding inquired
-returns c = rw (c.not_yet-reply.ensures, c.if-committed.false-raw)
+returns c =
+    elim c.if-v-ne0.branch [
+      | then-v-ne0 w ↦ rw (w.reply-is, w.done-reply.ensures, ne_eqb _ 0 w.if-v-ne0.true)
+      | else-v-ne0 w ↦ rw (w.reply-is, w.not_yet-reply.ensures, eq-eqb _ 0 w.if-v-ne0.false)
+    ]

@@ -1,5 +1,0 @@
--- `number::vote_kept` meets its contract. Assumes nothing.
-use Rattle.server_form.proofs.number.vote_kept.Goals as goal
-
-pub returns-then-there : goal.returns-then-there
-returns-then-there c = rw (c.bad_set.ensures, c.bad_ballot.ensures, c.if-there.true)
