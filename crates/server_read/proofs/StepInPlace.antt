@@ -1,66 +1,90 @@
--- The passes over the records of a lent server come to what the definitions say. Assumes nothing.
-use Prim.Native.Nat.{ℕ, zero, suc, ◌≤◌, ◌<◌}
+-- What is read of a lent server, record by record, is its form, and what a message comes to is what the definition of the step says. Assumes nothing.
+use Prim.Native.Nat.{ℕ, ◌+◌, ◌<◌}
 use mathlib.Core.Path.{◌≡◌, refl, sym, ap, ◌∙◌}
-use mathlib.Core.Bool.{Bool, cond, ◌&&◌}
-use native.Mathlib.Numerals.{add-one}
+use mathlib.Core.Bool.{Bool, true, false, cond, not, ◌&&◌, and-false}
 use lib.Dec.{eqb}
-use Rattle.masks.specs.Bits.{insert}
-use Rattle.masks.specs.Folds.{iter, mask_of}
+use Rattle.masks.specs.Folds.{mask_of, all_below}
+use Rattle.masks.proofs.Bools.{not_not}
+use Rattle.masks.proofs.FoldLaws.{no_all}
+use Rattle.masks.proofs.Turns.{all-step, mask-none}
 use Rattle.rules.specs.Keys.{keys_on}
+use Rattle.wire.specs.Codes.{PreAccept}
+use Rattle.server.specs.declared.Changed.{Changed}
+use Rattle.server.specs.declared.Record.{Record}
+use Rattle.server.specs.Changes.{change}
+use Rattle.server_step.specs.declared.Considered.{Considered}
+use Rattle.server_read.specs.declared.form.Form.{Form}
+use Rattle.rules.specs.Cluster.{bad_server}
 use Rattle.wire.specs.declared.Message.{Message}
 use Rattle.server.specs.declared.Server.{Server}
 use Rattle.server.specs.Held.{record_at, shard}
 use Rattle.server.specs.Form.{formed}
-use Rattle.server.specs.Serve.{came_earlier, fixes}
-use Rattle.server_form.specs.OnePass.{read_log, formed_below}
-use Rattle.server_form.proofs.FormInOnePass.{form-once, pass-none, pass_step}
-use Rattle.server_step.specs.OneStore.{place_of, refusal_by, considered, considered_at}
-use Rattle.server_step.proofs.StepIsServe.{came_by_keys, looked_le, place_lt}
-use Rattle.server_read.specs.declared.form.Form.{Form}
-use Rattle.server_read.specs.declared.stepping.Earlier.{Earlier}
-use Rattle.server_read.specs.declared.stepping.Asked.{Asked}
-use Rattle.server_read.specs.InPlace.{form_begun, form_turn, form_in, earlier_turn, earlier_in, asked_of, concluded_of, considered_by}
+use Rattle.server.specs.Serve.{fixes}
+use Rattle.server_form.specs.OnePass.{read_log, number_formed, number_formed_at, formed_below}
+use Rattle.server_form.proofs.FormInOnePass.{form-once}
+use Rattle.server_step.specs.OneStore.{Considering, place_of, refusal_by, looked, change_by, considered, considered_at}
+use Rattle.server_step.proofs.StepIsServe.{came_by_keys}
+use Rattle.server_read.specs.InPlace.{form_read, kept, earlier_in, considered_by}
 
-abbrev read : Server → Bool → Form
-read s b = record { id = s.id; shard = shard s; word = (read_log s.log).word; fine = b }
+-- ---- the form
 
-below : (s : Server) (n : ℕ) → form_in s (form_begun s.id s.log) n ≡ read s (formed_below s n)
-unfolding form_in iter
-below s zero = ap (read s) (pass-none s)
-below s (suc n) = ap (λ (k : Form). form_turn k n (record_at s n)) (below s n) ∙ ap (read s) (sym (pass_step s n) ∙ ap (formed_below s) (add-one n))
+module _ (s : Server) where
+  pub strange : bad_server s.id ≡ true → formed s ≡ false
+  unfolding formed
+  strange e = rw e
 
-pub whole_form : (s : Server) → form_in s (form_begun s.id s.log) 64 ≡ read s (formed s)
-whole_form s = below s 64 ∙ ap (read s) (sym (form-once s))
+  pub log-broken : (read_log s.log).fine ≡ false → formed s ≡ false
+  unfolding formed_below
+  log-broken e = form-once s ∙ rw e
 
-abbrev sought : Server → Message → ℕ → Earlier
-sought s m w = record { keys = keys_on m.pieces (shard s); shard = shard s; word = w }
+  -- the numbers, with the log's word
+  module _ (word : ℕ) (is : word ≡ (read_log s.log).word) where
+    pub number-broken : (t : ℕ) → t < 64 → number_formed (shard s) word t (record_at s t) ≡ false → formed s ≡ false
+    unfolding formed_below number_formed_at
+    number-broken t l e =
+        form-once s
+        ∙ ap (λ (b : Bool). (read_log s.log).fine && not (bad_server s.id) && b)
+        (no_all (number_formed_at s (read_log s.log).word) 64 t l (ap (λ (w : ℕ). number_formed (shard s) w t (record_at s t)) (sym is) ∙ e))
+        ∙ and-false _
 
-came : (s : Server) (m : Message) (n : ℕ) → earlier_in s (sought s m 0) n ≡ sought s m (mask_of (came_earlier s m.pieces) n)
-unfolding earlier_in iter mask_of
-came s m zero = refl
-came s m (suc n) =
-    let w = mask_of (came_earlier s m.pieces) n in
-    ap (λ (k : Earlier). earlier_turn k n (record_at s n)) (came s m n) ∙ ap (λ (b : Bool). sought s m (cond b (insert w n) w)) (sym (came_by_keys s m n))
+    pub number-more : (t : ℕ) → all_below (number_formed_at s word) t ≡ true → number_formed (shard s) word t (record_at s t) ≡ true → all_below (number_formed_at s word) (t + 1) ≡ true
+    unfolding number_formed_at
+    number-more t a e = rw (all-step, a, e)
 
-pub considered_by_lem : (s : Server) (m : Message) → considered_by s (form_in s (form_begun s.id s.log) 64) m ≡ considered s m
-unfolding considered_by considered considered_at
-considered_by_lem s m =
-    let i = place_of m.t in
-    let asks = asked_of (read s (formed s)) (record_at s i) m in
-    ap (λ (f : Form). considered_by s f m) (whole_form s)
-    ∙ ap (λ (e : Earlier). concluded_of (read s (formed s)) i (record_at s i) asks e m) (came s m asks.many)
+    pub all_fine : bad_server s.id ≡ false → (read_log s.log).fine ≡ true → all_below (number_formed_at s word) 64 ≡ true → formed s ≡ true
+    unfolding formed_below
+    all_fine b f a = form-once s ∙ rw (f, b, ← is, a)
 
--- ---- what the walk of `consider` asks
+-- ---- the step
 
-module _ (s : Server) (f : Form) (m : Message) where
-  abbrev place : ℕ
-  place = place_of m.t
+module _ (s : Server) (m : Message) where
+  abbrev n : ℕ
+  n = refusal_by (formed s) (shard s) (record_at s (place_of m.t)) m
 
-  abbrev asks : Asked
-  asks = asked_of f (record_at s place) m
+  -- what it comes to, where these came earlier
+  abbrev after : (ℕ → Bool) → Considering
+  after came =
+      let c = change_by n s.id (mask_of came (looked (eqb n 0 && fixes (record_at s (place_of m.t)) m))) (record_at s (place_of m.t)) m in
+      record { refusal = n; place = place_of m.t; after = c.after; reply = c.reply }
 
-  pub consider-place-for-below : place < 64
-  consider-place-for-below = place_lt m.t place refl
+  pub considered_by_lem : considered_by s (form_read s) m ≡ considered s m
+  unfolding considered_by considered considered_at earlier_in
+  considered_by_lem = ap after (λ j t. sym (came_by_keys s m t) j)
 
-  pub consider-earlier-in : asks.many ≤ 64
-  consider-earlier-in = looked_le (eqb (refusal_by f.fine f.shard (record_at s place) m) 0 && fixes (record_at s place) m) asks.many refl
+-- a message that is not refused, where w is the arrival set that it fixes
+module _ (s : Server) (f : Form) (m : Message) (i : ℕ) (at : i ≡ place_of m.t) where
+  abbrev v : Record
+  v = record_at s i
+
+  abbrev sought : ℕ → ℕ
+  sought = earlier_in s (keys_on m.pieces f.shard) f.shard
+
+  found : (b : Bool) → cond b (sought 64) 0 ≡ sought (looked b)
+  unfolding looked earlier_in
+  found true = refl
+  found false = mask-none _
+
+  pub taken-by : 0 ≡ refusal_by true f.shard v m → (w : ℕ) → w ≡ cond (eqb m.code PreAccept && eqb v.arrival.some 0) (sought 64) 0 → (c : Changed) → c ≡ change f.id w v m
+      → let o = considered_by s (kept f) m in ◌≡◌ {A = Considered} (record { place = i; after = c.after; reply = c.reply }) (record { place = o.place; after = o.after; reply = o.reply })
+  unfolding considered_by change_by
+  taken-by z w p c q = rw (q, p, found (eqb m.code PreAccept && eqb v.arrival.some 0), ← at, ← z) (simp not_not)

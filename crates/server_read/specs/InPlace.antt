@@ -1,57 +1,53 @@
--- A server's step as it is computed on a lent server: what each pass over the records makes of one record more.
-use Rattle.std.specs.Prelude.{ℕ, not, ◌&&◌, cond, eqb}
-use Rattle.masks.specs.Bits.{insert}
-use Rattle.masks.specs.Folds.{iter}
+-- A server's step as it is computed on a lent server: the form, who came earlier, and what a message comes to.
+use Rattle.std.specs.Prelude.{ℕ, Bool, true, ◌&&◌, eqb}
+use Rattle.masks.specs.Folds.{mask_of}
 use Rattle.rules.specs.Flags.{there}
-use Rattle.rules.specs.Cluster.{bad_server, shard_of}
+use Rattle.rules.specs.declared.Keys.{Keys}
 use Rattle.rules.specs.Keys.{keys_on, clashes}
 use Rattle.wire.specs.declared.Message.{Message}
-use Rattle.server.specs.declared.Record.{Record}
-use Rattle.server.specs.declared.Log.{Log}
 use Rattle.server.specs.declared.Server.{Server}
-use Rattle.server.specs.Held.{record_at}
+use Rattle.server.specs.Held.{record_at, shard}
+use Rattle.server.specs.Form.{formed}
 use Rattle.server.specs.Serve.{fixes}
-use Rattle.server_form.specs.OnePass.{read_log, number_formed}
-use Rattle.server_step.specs.declared.Considered.{Considered}
-use Rattle.server_step.specs.OneStore.{refusal_by, looked, place_of, change_by}
+use Rattle.server_form.specs.OnePass.{read_log}
+use Rattle.server_step.specs.OneStore.{Considering, refusal_by, looked, place_of, change_by}
 use Rattle.server_read.specs.declared.form.Form.{Form}
-use Rattle.server_read.specs.declared.stepping.Earlier.{Earlier}
-use Rattle.server_read.specs.declared.stepping.Asked.{Asked}
 
 -- ---- the form
 
-abbrev pub form_begun : (id : ℕ) → Log → Form
-form_begun id log = record { id = id; shard = shard_of id; word = (read_log log).word; fine = (read_log log).fine && not (bad_server id) }
+-- what is read of a server that keeps its form
+abbrev pub form_of : Server → Form
+form_of s = record { id = s.id; shard = shard s; word = (read_log s.log).word }
 
-abbrev pub form_turn : Form → ℕ → Record → Form
-form_turn a t x = record { id = a.id; shard = a.shard; word = a.word; fine = a.fine && number_formed a.shard a.word t x }
+-- the same of any server, with whether it keeps the form
+pub record FormRead : Type 0 where
+  pub id : ℕ
+  pub shard : ℕ
+  pub word : ℕ
+  pub fine : Bool
 
-unfoldable pub form_in : Server → Form → ℕ → Form
-form_in s a n = iter (λ t k. form_turn k t (record_at s t)) a n
+abbrev pub form_read : Server → FormRead
+form_read s = record { id = s.id; shard = shard s; word = (read_log s.log).word; fine = formed s }
+
+-- of a form that is kept
+abbrev pub kept : Form → FormRead
+kept f = record { id = f.id; shard = f.shard; word = f.word; fine = true }
 
 -- ---- who came earlier
 
-abbrev pub earlier_turn : Earlier → ℕ → Record → Earlier
-earlier_turn a t x = record { keys = a.keys; shard = a.shard; word = cond (there x.arrival.some && clashes a.keys (keys_on x.pieces a.shard)) (insert a.word t) a.word }
+-- t has arrived, and conflicts with these keys at shard k
+abbrev pub came_with : Server → Keys → (k t : ℕ) → Bool
+came_with s keys k t = there (record_at s t).arrival.some && clashes keys (keys_on (record_at s t).pieces k)
 
-unfoldable pub earlier_in : Server → Earlier → ℕ → Earlier
-earlier_in s a n = iter (λ t k. earlier_turn k t (record_at s t)) a n
+unfoldable pub earlier_in : Server → Keys → (k n : ℕ) → ℕ
+earlier_in s keys k n = mask_of (came_with s keys k) n
 
 -- ---- the step
 
-abbrev pub asked_of : Form → Record → Message → Asked
-asked_of f v m =
-    let n = refusal_by f.fine f.shard v m in
-    record { refusal = n; many = looked (eqb n 0 && fixes v m); earlier = record { keys = keys_on m.pieces f.shard; shard = f.shard; word = 0 } }
-
-abbrev pub concluded_of : Form → ℕ → Record → Asked → Earlier → Message → Considered
-concluded_of f i v q e m =
-    let c = change_by q.refusal f.id e.word v m in
-    record { refusal = q.refusal; place = i; after = c.after; reply = c.reply }
-
 -- what a message comes to at a server of this form
-unfoldable pub considered_by : Server → Form → Message → Considered
+unfoldable pub considered_by : Server → FormRead → Message → Considering
 considered_by s f m =
     let i = place_of m.t in
-    let q = asked_of f (record_at s i) m in
-    concluded_of f i (record_at s i) q (earlier_in s q.earlier q.many) m
+    let n = refusal_by f.fine f.shard (record_at s i) m in
+    let c = change_by n f.id (earlier_in s (keys_on m.pieces f.shard) f.shard (looked (eqb n 0 && fixes (record_at s i) m))) (record_at s i) m in
+    record { refusal = n; place = i; after = c.after; reply = c.reply }

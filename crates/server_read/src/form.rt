@@ -1,75 +1,41 @@
-// The form of a lent server: the log and the server's number first, then each record in its place.
-ghost use Rattle.std.specs.Prelude.{◌≡◌, ◌<◌, ◌≤◌};
-ghost use Rattle.server_read.specs.InPlace.{form_begun, form_turn, form_in};
+// The form of a lent server: the server's number and the log first, then each record in its place.
+ghost use Rattle.std.specs.Prelude.{◌≡◌, true, false, MatchResult};
+ghost use Rattle.server.specs.Form.{formed};
+ghost use Rattle.server_read.specs.InPlace.{form_of};
 
 use rules::cluster::{bad_server, shard_of};
-use server::{Log, Record, Server};
+use rules::refusals::Refusal;
+use server::Server;
 use server_form::log::read_log;
 use server_form::number::number_formed;
 
-// The server's number and its shard, the log's word, and whether what was read keeps the form.
+// What is read of a server that keeps its form: its number and its shard, and the log's word.
 #[derive(Clone, Copy)]
 pub struct Form {
     pub id: u32,
     pub shard: u32,
     pub word: u64,
-    pub fine: bool,
 }
 
-// The log and the server's number.
-pub fn begun(id: u32, log: Log) -> Form
-    ensures { result ≡ form_begun id log }
+// The form of a lent server, where it is kept.
+pub fn read_form(s: &Server) -> Result<Form, Refusal>
+    ensures { MatchResult result (λ f. (formed s.now ≡ true) × (f ≡ form_of s.now)) (λ e. (formed s.now ≡ false) × (e ≡ Refusal.OutOfForm)) }
 {
-    let shard = shard_of(id);
-    let read = read_log(log);
-    Form {
-        id,
+    if bad_server(s.id) {
+        return Err(Refusal::OutOfForm);
+    }
+    let Some(word) = read_log(&s.log) else {
+        return Err(Refusal::OutOfForm);
+    };
+    let shard = shard_of(s.id);
+    for (t, record) in s.records.iter().enumerate() {
+        if !number_formed(shard, word, t as u32, record) {
+            return Err(Refusal::OutOfForm);
+        }
+    }
+    Ok(Form {
+        id: s.id,
         shard,
-        word: read.word,
-        fine: read.fine & !bad_server(id),
-    }
-}
-
-// The same of a lent server.
-pub fn head(s: &Server) -> Form
-    ensures { result ≡ form_begun s.now.id s.now.log }
-{
-    let id = s.id;
-    let log = s.log;
-    begun(id, log)
-}
-
-// The record of one number more.
-pub fn form_turn(a: Form, t: usize, x: Record) -> Form
-    requires { t < 64 }
-    ensures { result ≡ form_turn a t x }
-{
-    let fine = a.fine & number_formed(a.shard, a.word, t as u32, x);
-    Form {
-        id: a.id,
-        shard: a.shard,
-        word: a.word,
-        fine,
-    }
-}
-
-// The records of the numbers below `many`, each read in its place.
-pub fn form_in(s: &Server, a0: Form, many: usize) -> Form
-    requires { many ≤ 64 }
-    ensures { result ≡ form_in s.now a0 many }
-{
-    let mut a = a0;
-    let mut t: usize = 0;
-    while t < many {
-        let x = s.records[t];
-        a = form_turn(a, t, x);
-        t += 1;
-    }
-    a
-}
-
-pub fn form_word(f: Form) -> u64
-    ensures { result ≡ f.word }
-{
-    f.word
+        word,
+    })
 }

@@ -2,23 +2,14 @@
 ghost use Rattle.std.specs.Prelude.{◌≡◌};
 ghost use Rattle.server_run.specs.Gathered.{named, set_without};
 
+use messages::blanks::no_set;
 use rules::{MaybeSet, Set};
 
 // The set that is committed, or nothing.
-pub fn named(c: MaybeSet) -> Set
-    ensures { result ≡ named c }
+pub fn named(c: &MaybeSet) -> Set
+    ensures { result ≡ named c.now }
 {
-    let held = c.some != 0;
-    if held {
-        c.set
-    } else {
-        Set {
-            w0: 0,
-            w1: 0,
-            w2: 0,
-            w3: 0,
-        }
-    }
+    if c.some != 0 { c.set } else { no_set() }
 }
 
 // What is in `v` and not in `w`, shard by shard.

@@ -12,7 +12,6 @@ use Rattle.server.specs.declared.Record.{Record}
 use Rattle.server.specs.declared.Server.{Server}
 use Rattle.server.specs.declared.Changed.{Changed}
 use Rattle.server.specs.declared.Served.{Served}
-use Rattle.server_step.specs.declared.Considered.{Considered}
 use Rattle.server.specs.Held.{record_at, put_record, shard}
 use Rattle.server.specs.Form.{formed}
 use Rattle.server.specs.Refusals.{not_taken, untouched, other_pieces, other_set}
@@ -57,18 +56,25 @@ looked b = NUMBERS if b else 0
 unfoldable pub place_of : ℕ → ℕ
 place_of t = 0 if bad_number t else t
 
+-- what a step comes to, refused or not: the refusal or 0, the place of the one record that it stores, that record as it becomes, and the reply
+pub record Considering : Type 0 where
+  pub refusal : ℕ
+  pub place : ℕ
+  pub after : Record
+  pub reply : Message
+
 -- what the step with the record v of place i and the refusal n comes to
-unfoldable pub considered_at : Server → (i n : ℕ) → Record → Message → Considered
+unfoldable pub considered_at : Server → (i n : ℕ) → Record → Message → Considering
 considered_at s i n v m =
     let c = change_by n s.id (mask_of (came_earlier s m.pieces) (looked (eqb n 0 && fixes v m))) v m in
     record { refusal = n; place = i; after = c.after; reply = c.reply }
 
-unfoldable pub considered : Server → Message → Considered
+unfoldable pub considered : Server → Message → Considering
 considered s m =
     considered_at s (place_of m.t) (refusal_by (formed s) (shard s) (record_at s (place_of m.t)) m) (record_at s (place_of m.t)) m
 
 -- the one record is stored
-abbrev pub stored : Server → Considered → Served
+abbrev pub stored : Server → Considering → Served
 stored s c = record { refusal = c.refusal; reply = c.reply; server = put_record s c.place c.after }
 
 -- a message with the code k and the refusal n runs what is ready: a Commit, or a Done as one, that is not refused

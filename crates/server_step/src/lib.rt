@@ -1,16 +1,15 @@
-// The parts of a server's step that read one record: the refusals in their order, then what the message does to the record of its T.
+// The parts of a server's step that read one record: the refusals in their order, and who came earlier.
 #![tactic(auto)]
 
 use server::Record;
 use wire::Message;
 
-pub mod refusals; // refusals.rt: the tests, and which comes first
+pub mod refusals; // refusals.rt: the tests, in their order
 pub mod record; // record.rt: the record of T, and who came earlier
 
-// What a step comes to: the refusal or 0, the place of the one record that it stores, that record as it becomes, and the reply.
+// What a message that is not refused comes to: the place of the one record that it stores, that record as it becomes, and the reply.
 #[derive(Clone, Copy)]
 pub struct Considered {
-    pub refusal: u32,
     pub place: usize,
     pub after: Record,
     pub reply: Message,

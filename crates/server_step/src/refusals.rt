@@ -1,104 +1,78 @@
 // The refusals of a message at a server, and their order.
-ghost use Rattle.std.specs.Prelude.{◌≡◌};
+ghost use Rattle.std.specs.Prelude.{◌≡◌, true};
+ghost use Rattle.rules.specs.Refusal.{told};
+ghost use Rattle.wire.specs.Codes.{commits};
 ghost use Rattle.server.specs.Refusals.{not_taken, untouched, other_pieces, other_set};
-ghost use Rattle.server_step.specs.OneStore.{first_refusal, refusal_by, runs_after};
+ghost use Rattle.server_step.specs.OneStore.{refusal_by};
 
-use messages::codes::{ACCEPT, COMMIT, DONE, PRE_ACCEPT, PREPARE};
-use rules::sets::same_set;
+use messages::codes::{ACCEPT, COMMIT, DONE, PRE_ACCEPT, PREPARE, server_takes, shape_of};
+use rules::refusals::Refusal;
 use server::Record;
 use transaction::{same_pieces, shards_of};
 use wire::Message;
 
-// 12: a code that a server does not take, or a count above 8.
-fn not_taken(m: Message) -> bool
-    ensures { result ≡ not_taken m }
+// A code that a server does not take, or a count above 8.
+fn not_taken(m: &Message) -> bool
+    ensures { result ≡ not_taken m.now }
 {
-    !messages::codes::server_takes(m.code) | faults::over_count(m)
+    !server_takes(m.code) | faults::over_count(*m)
 }
 
-// 4: a PreAccept, Accept or Prepare, where T does not touch this server's shard.
-fn untouched(k: u32, touched: u64, m: Message) -> bool
-    ensures { result ≡ untouched k touched m }
+// A PreAccept, Accept or Prepare, where T does not touch this server's shard.
+fn untouched(k: u32, touched: u64, m: &Message) -> bool
+    ensures { result ≡ untouched k touched m.now }
 {
     let asks = (m.code == PRE_ACCEPT) | (m.code == ACCEPT) | (m.code == PREPARE);
     asks & !masks::has(touched, k as usize)
 }
 
-// 5: other pieces than those held.
-fn other_pieces(v: Record, m: Message) -> bool
-    ensures { result ≡ other_pieces v m }
+// Other pieces than those held.
+fn other_pieces(v: &Record, m: &Message) -> bool
+    ensures { result ≡ other_pieces v.now m.now }
 {
-    let shape = messages::codes::shape_of(m.code);
-    let both = shape.pieces & (v.pieces.count != 0);
-    if both {
-        return !same_pieces(v.pieces, m.pieces);
-    }
-    false
+    let both = shape_of(m.code).pieces & (v.pieces.count != 0);
+    both && !same_pieces(v.pieces, m.pieces)
 }
 
-// 6: a Commit or Done with another set than the one that is committed.
-fn other_set(v: Record, m: Message) -> bool
-    ensures { result ≡ other_set v m }
+// A Commit or Done with another set than the one that is committed.
+fn other_set(v: &Record, m: &Message) -> bool
+    ensures { result ≡ other_set v.now m.now }
 {
-    let commits = (m.code == COMMIT) | (m.code == DONE);
-    commits & (v.committed.some != 0) & !same_set(v.committed.set, m.set)
+    commits(m.code) & (v.committed.some != 0) & (v.committed.set != m.set)
 }
 
-// The number of the first test that fires, in this order; 0 is no refusal.
-fn first_refusal(
-    b13: bool,
-    b12: bool,
-    b1: bool,
-    b2: bool,
-    b3: bool,
-    b4: bool,
-    b5: bool,
-    b6: bool,
-) -> u32
-    ensures { result ≡ first_refusal b13 b12 b1 b2 b3 b4 b5 b6 }
+// The refusal at a server of shard `k` that keeps its form, and that holds `v` of the message's T: the first test that fires.
+pub fn refuse(k: u32, v: &Record, m: &Message) -> Result<(), Refusal>
+    ensures { told result ≡ refusal_by true k v.now m.now }
 {
-    if b13 {
-        return 13;
+    if not_taken(m) {
+        return Err(Refusal::Unknown);
     }
-    if b12 {
-        return 12;
+    if faults::bad_numbers(*m) {
+        return Err(Refusal::OutOfRange);
     }
-    if b1 {
-        return 1;
+    if faults::bad_pieces(*m) {
+        return Err(Refusal::BadPieces);
     }
-    if b2 {
-        return 2;
-    }
-    if b3 {
-        return 3;
-    }
-    if b4 {
-        return 4;
-    }
-    if b5 {
-        return 5;
-    }
-    if b6 { 6 } else { 0 }
-}
-
-// The refusal at a server of shard `k` that keeps its form, or does not, and that holds `v` of the message's T.
-pub fn refusal_by(form: bool, k: u32, v: Record, m: Message) -> u32
-    ensures { result ≡ refusal_by form k v m }
-{
     let touched = shards_of(m.pieces);
-    let b12 = not_taken(m);
-    let b1 = faults::bad_numbers(m);
-    let b2 = faults::bad_pieces(m);
-    let b3 = faults::bad_sets(touched, m);
-    let b4 = untouched(k, touched, m);
-    let b5 = other_pieces(v, m);
-    let b6 = other_set(v, m);
-    first_refusal(!form, b12, b1, b2, b3, b4, b5, b6)
+    if faults::bad_sets(touched, *m) {
+        return Err(Refusal::BadSet);
+    }
+    if untouched(k, touched, m) {
+        return Err(Refusal::Untouched);
+    }
+    if other_pieces(v, m) {
+        return Err(Refusal::OtherPieces);
+    }
+    if other_set(v, m) {
+        return Err(Refusal::OtherSet);
+    }
+    Ok(())
 }
 
-// A message with this code and this refusal runs what is ready: a Commit, or a Done as one, that is not refused.
-pub fn runs_after(refusal: u32, code: u32) -> bool
-    ensures { result ≡ runs_after refusal code }
+// A message with this code, once it is not refused, runs what is ready: a Commit, or a Done as one.
+pub fn commits(code: u32) -> bool
+    ensures { result ≡ commits code }
 {
-    ((code == COMMIT) | (code == DONE)) & (refusal == 0)
+    (code == COMMIT) | (code == DONE)
 }

@@ -1,6 +1,11 @@
--- `server_read::wanting::wanted` meets its contract: the two passes come to the wanted set.
-use Rattle.server_read.proofs.WantedInPlace.{wanted-told}
+-- `server_read::wanting::wanted` meets its contract. Assumes nothing.
+use Rattle.server.specs.Host.{wanted}
 use Rattle.server_read.proofs.wanting.wanted.Goals as goal
 
-pub returns : goal.returns
-returns c = rw (c.concluded.ensures, c.named_in-n.ensures, c.none_named-n0.ensures, c.form_in-f.ensures, c.head-f0.ensures) (wanted-told c.args.s.now)
+pub returns-in-Ok : goal.returns-in-Ok
+unfolding wanted
+returns-in-Ok c = rw (c.in-Ok.ensures.0, c.in-Ok.ensures.1)
+
+pub returns-in-Err : goal.returns-in-Err
+unfolding wanted
+returns-in-Err c = rw (c.in-Err.ensures.0, c.no_set.ensures, c.number.ensures, c.in-Err.ensures.1)

@@ -1,12 +1,12 @@
 -- `record::place_of` meets its contract. Assumes nothing.
+use Rattle.std.proofs.Common.{sym, ◌∙◌}
 use Rattle.server_step.specs.OneStore.{place_of}
-use mathlib.Core.Path.{sym, ◌∙◌}
 use Rattle.server_step.proofs.record.place_of.Goals as goal
 
-pub returns-then-none : goal.returns-then-none
+pub returns-then-bad_number-clause-value : goal.returns-then-bad_number-clause-value
 unfolding place_of
-returns-then-none c = rw (sym c.bad_number-none.ensures ∙ c.if-none.true)
+returns-then-bad_number-clause-value c = rw (sym c.bad_number.ensures ∙ c.if-bad_number.true)
 
-pub returns-else-none : goal.returns-else-none
+pub returns-else-bad_number-clause-value : goal.returns-else-bad_number-clause-value
 unfolding place_of
-returns-else-none c = rw (sym c.bad_number-none.ensures ∙ c.if-none.false)
+returns-else-bad_number-clause-value c = rw (sym c.bad_number.ensures ∙ c.if-bad_number.false)

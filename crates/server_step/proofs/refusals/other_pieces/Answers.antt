@@ -5,9 +5,9 @@ use Rattle.server_step.proofs.refusals.other_pieces.Goals as goal
 pub returns-then-both : goal.returns-then-both
 unfolding other_pieces
 returns-then-both c =
-    let h = rw c.shape_of-shape.ensures at c.if-both.true in
+    let h = rw c.shape_of.ensures at c.if-both.true in
     rw (c.same_pieces.ensures, h)
 
-pub returns : goal.returns
+pub returns-else-both : goal.returns-else-both
 unfolding other_pieces
-returns c = let h = rw c.shape_of-shape.ensures at c.if-both.false in rw h
+returns-else-both c = let h = rw c.shape_of.ensures at c.if-both.false in rw h c.if-both.false
