@@ -47,12 +47,9 @@ use Rattle.server_run.specs.Limited.{allowed, refusal_of}
 use Rattle.server_run.proofs.Gathering.{named-deps}
 use Rattle.server_run.proofs.Unrun.{deps-words, read-ran, next-unrun}
 use Rattle.server_run.proofs.Turning.{run-until}
-use Rattle.server_read.specs.declared.form.Form.{Form}
-use Rattle.server_read.specs.InPlace.{form_begun, form_in}
-use Rattle.server_read.proofs.StepInPlace.{whole_form}
-use Rattle.server_plan.specs.declared.Planned.{Planned}
+use Rattle.server_read.specs.InPlace.{FormRead, form_read}
 use Rattle.server_plan.specs.declared.Waiting.{Waiting}
-use Rattle.server_plan.specs.Planning.{unrun_of, committed_with, waiting_turn, waiting_in, planned_log, planned_by, waits_alone, nothing_planned, planned_after}
+use Rattle.server_plan.specs.Planning.{PlanTold, unrun_of, committed_with, waiting_turn, waiting_in, planned_log, planned_by, waits_alone, nothing_planned, planned_after}
 use Rattle.server_plan.proofs.PlanTurns.{planned-stop}
 use Rattle.server_plan.proofs.WaitsAlone.{alone_waits}
 use Rattle.server_lent.specs.Listed.{ran_planned}
@@ -96,11 +93,11 @@ module _ (s : Server) (m : Message) (records : length s.records ≡ 64) (keys : 
   at_other : (t : ℕ) → (t ≡ m.t → ⊥) → (record_at Z t).committed ≡ (record_at s t).committed
   at_other t n = ap (λ (x : Record). x.committed) (get_or-set_other s.records m.t t v no_record n)
 
-  abbrev form : Form
-  form = form_in s (form_begun s.id s.log) 64
+  abbrev form : FormRead
+  form = form_read s
 
   form-is : form ≡ record { id = Z.id; shard = shard Z; word = (read_log Z.log).word; fine = formed Z }
-  form-is = whole_form s ∙ ap (λ (b : Bool). record { id = s.id; shard = shard s; word = (read_log s.log).word; fine = b }) (p.form ∙ sym (parts_formed Z sound.form))
+  form-is = ap (λ (b : Bool). record { id = s.id; shard = shard s; word = (read_log s.log).word; fine = b }) (p.form ∙ sym (parts_formed Z sound.form))
 
   deps-is : (w : ℕ) → set (tab (λ t. unrun_of w (record_at s t).committed) 64) m.t (unrun_of w v.committed) ≡ tab (λ t. unrun_of w (record_at Z t).committed) 64
   deps-is w = tab_of (λ t. unrun_of w (record_at Z t).committed) 64 0 _ (length-set l m.t x ∙ length-tab f 64) (λ t h. each t h (ℕ_discrete t m.t))
@@ -155,11 +152,11 @@ module _ (s : Server) (m : Message) (records : length s.records ≡ 64) (keys : 
   with-T = waiting_turn form.word waiting m.t v.committed
 
   -- the plan that is made before the record is stored
-  abbrev pub planned : Planned
+  abbrev pub planned : PlanTold
   planned = planned_after form with-T m.t u s.log
 
   word-form : form.word ≡ (read_log s.log).word
-  word-form = ap (λ (x : Form). x.word) form-is
+  word-form = ap (λ (x : FormRead). x.word) form-is
 
   deps-Z : with-T.deps ≡ tab (unrun_at Z) 64
   deps-Z =
@@ -216,7 +213,7 @@ module _ (s : Server) (m : Message) (records : length s.records ≡ 64) (keys : 
     nothing_is : nothing_planned form s.log ≡ plan Z 64 sound.memory.records keys places Z-words
     unfolding planned_by
     nothing_is =
-        ap (λ (x : Form). nothing_planned x s.log) form-is
+        ap (λ (x : FormRead). nothing_planned x s.log) form-is
         ∙ (λ j. record { refusal = refusal_of (formed Z); many = none_more j; plan = record { shard = shard Z; first = s.log.count }; log = back j })
       where
         back : Z.log ≡ planned_log (rows_of (tab (unrun_at Z) 64)) (committed_word Z) (allowed (formed Z) 64) (read_log Z.log).word Z.log
@@ -236,10 +233,10 @@ module _ (s : Server) (m : Message) (records : length s.records ≡ 64) (keys : 
 
   -- so as many run as the definition runs, and the same
   pub commit-many : planned.many ≡ (run_all Z).many
-  commit-many = ap (λ (x : Planned). x.many) planned-is ∙ told-many Z 64 sound.memory.records keys places Z-words ∙ ap (λ (r : Ran). r.many) (run-until Z)
+  commit-many = ap (λ (x : PlanTold). x.many) planned-is ∙ told-many Z 64 sound.memory.records keys places Z-words ∙ ap (λ (r : Ran). r.many) (run-until Z)
 
   pub commit-server : ran_planned planned.plan planned.log planned.many Z ≡ (run_all Z).server
   commit-server =
-      ap (λ (x : Planned). ran_planned x.plan x.log x.many Z) planned-is
+      ap (λ (x : PlanTold). ran_planned x.plan x.log x.many Z) planned-is
       ∙ ran-planned Z 64 sound.memory.records keys places Z-words
       ∙ ap (λ (r : Ran). r.server) (run-until Z)

@@ -1,5 +1,4 @@
 pub mod RunInPlace
 pub mod AlongTheLog
 pub mod RunsInPlace
-pub mod FirstInPlace
 pub mod CommitInPlace

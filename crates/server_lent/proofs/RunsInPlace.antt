@@ -28,13 +28,10 @@ use Rattle.server_run.specs.Gathered.{unrun_at}
 use Rattle.server_run.specs.Limited.{allowed, ran_up_to}
 use Rattle.server_run.proofs.Gathering.{named-deps}
 use Rattle.server_run.proofs.Turning.{up_to}
-use Rattle.server_read.specs.InPlace.{form_begun, form_in}
-use Rattle.server_read.proofs.StepInPlace.{whole_form}
-use Rattle.server_read.specs.declared.form.Form.{Form}
-use Rattle.server_plan.specs.declared.Planned.{Planned}
+use Rattle.server_read.specs.InPlace.{FormRead, form_read}
 use Rattle.server_plan.specs.declared.Waiting.{Waiting}
 use Rattle.server_lent.specs.Listed.{spot_of, listed_at, ran_planned}
-use Rattle.server_plan.specs.Planning.{unrun_of, committed_with, waiting_turn, waiting_in, noted, logged_of, planned_log, planned_by}
+use Rattle.server_plan.specs.Planning.{PlanTold, unrun_of, committed_with, waiting_turn, waiting_in, noted, logged_of, planned_log, planned_by}
 use Rattle.server_lent.proofs.AlongTheLog.{risen, runs, order, turns-runs, count-after, entry_after, plan-runs}
 use Rattle.server_read.proofs.Sizes.{Told, records-long, counters-long, log-long, words_small}
 use Rattle.server_plan.proofs.PlanIsRuns.{plan-is}
@@ -104,7 +101,7 @@ number-place u l = rw (lt-leb 64 u l)
 -- ---- the whole
 
 module _ (s : Server) (limit : ℕ) (records : length s.records ≡ 64) (keys : length s.counters.list ≡ 16) (places : length s.log.list ≡ 64) (words : (t : ℕ) → t < 64 → deps_at s t < 2 ^ 64) where
-  abbrev read : Form
+  abbrev read : FormRead
   read = record { id = s.id; shard = shard s; word = (read_log s.log).word; fine = formed s }
 
   abbrev most : ℕ
@@ -116,7 +113,7 @@ module _ (s : Server) (limit : ℕ) (records : length s.records ≡ 64) (keys : 
   abbrev us : List ℕ
   us = order most s
 
-  abbrev pub plan : Planned
+  abbrev pub plan : PlanTold
   plan = planned_by read (tab (unrun_at s) 64) (committed_word s) s.log limit
 
   log_is : plan.log ≡ z.log
@@ -187,33 +184,33 @@ unfolding unrun_of unrun_at
 unrun_is s w e = λ j. tab (λ t. without (named-deps s t j) (e j)) 64
 
 module _ (s : Server) (limit : ℕ) where
-  abbrev form : Form
-  form = form_in s (form_begun s.id s.log) 64
+  abbrev form : FormRead
+  form = form_read s
 
   abbrev waiting : Waiting
   waiting = waiting_in s form.word 64
 
-  abbrev pub planned : Planned
+  abbrev pub planned : PlanTold
   planned = planned_by form waiting.deps waiting.committed s.log limit
 
   planned-from : planned ≡ planned_by (record { id = s.id; shard = shard s; word = (read_log s.log).word; fine = formed s }) (tab (unrun_at s) 64) (committed_word s) s.log limit
   unfolding committed_word
   planned-from =
-      let form-is : form ≡ record { id = s.id; shard = shard s; word = (read_log s.log).word; fine = formed s } = whole_form s in
+      let form-is : form ≡ record { id = s.id; shard = shard s; word = (read_log s.log).word; fine = formed s } = refl in
       let all = waits s form.word 64 (omega arith) in
       let deps : waiting.deps ≡ tab (unrun_at s) 64 =
-      ap (λ (d : Waiting). d.deps) all ∙ fill-all (λ t. unrun_of form.word (record_at s t).committed) (replicate 64 0) 64 (rw (length-replicate {A = ℕ} 64 0) (omega arith)) ∙ unrun_is s form.word (ap (λ (k : Form). k.word) form-is) in
+      ap (λ (d : Waiting). d.deps) all ∙ fill-all (λ t. unrun_of form.word (record_at s t).committed) (replicate 64 0) 64 (rw (length-replicate {A = ℕ} 64 0) (omega arith)) ∙ unrun_is s form.word (ap (λ (k : FormRead). k.word) form-is) in
       let committed : waiting.committed ≡ mask_of (committed_at s) 64 = ap (λ (d : Waiting). d.committed) all in
       λ j. planned_by (form-is j) (deps j) (committed j) s.log limit
 
   module _ (was : Told s) where
     pub planned-refusal : planned.refusal ≡ (ran_up_to limit s).refusal
-    planned-refusal = ap (λ (p : Planned). p.refusal) planned-from ∙ told-refusal s limit (records-long s was) (counters-long s was) (log-long s was) (words_small s was)
+    planned-refusal = ap (λ (p : PlanTold). p.refusal) planned-from ∙ told-refusal s limit (records-long s was) (counters-long s was) (log-long s was) (words_small s was)
 
     pub planned-many : planned.many ≡ (ran_up_to limit s).many
-    planned-many = ap (λ (p : Planned). p.many) planned-from ∙ told-many s limit (records-long s was) (counters-long s was) (log-long s was) (words_small s was)
+    planned-many = ap (λ (p : PlanTold). p.many) planned-from ∙ told-many s limit (records-long s was) (counters-long s was) (log-long s was) (words_small s was)
 
     pub planned-server : ran_planned planned.plan planned.log planned.many s ≡ (ran_up_to limit s).server
     planned-server =
-        ap (λ (p : Planned). ran_planned p.plan p.log p.many s) planned-from
+        ap (λ (p : PlanTold). ran_planned p.plan p.log p.many s) planned-from
         ∙ ran-planned s limit (records-long s was) (counters-long s was) (log-long s was) (words_small s was)

@@ -12,7 +12,8 @@ use Rattle.server.specs.declared.Server.{Server}
 use Rattle.server.specs.Held.{record_at, append}
 use Rattle.server_run.specs.Gathered.{named}
 use Rattle.server_run.specs.Limited.{allowed, refusal_of}
-use Rattle.server_read.specs.declared.form.Form.{Form}
+use Rattle.server_read.specs.InPlace.{FormRead}
+use Rattle.server_plan.specs.declared.Plan.{Plan}
 use Rattle.server_plan.specs.declared.Planned.{Planned}
 use Rattle.server_plan.specs.declared.Waiting.{Waiting}
 
@@ -49,8 +50,19 @@ planned_log rows committed (suc n) ran l =
     let g = next_group rows committed ran in
     l if eqb g 0 else planned_log rows committed n (union ran g) (logged_of l g 64)
 
+-- a plan with its refusal or 0
+pub record PlanTold : Type 0 where
+  pub refusal : ℕ
+  pub many : ℕ
+  pub plan : Plan
+  pub log : Log
+
+-- where nothing refuses
+abbrev pub made : PlanTold → Planned
+made p = record { many = p.many; plan = p.plan; log = p.log }
+
 -- the plan of a server of this form, with these words, that has this log
-unfoldable pub planned_by : Form → List ℕ → (committed : ℕ) → Log → (limit : ℕ) → Planned
+unfoldable pub planned_by : FormRead → List ℕ → (committed : ℕ) → Log → (limit : ℕ) → PlanTold
 planned_by f deps committed log limit =
     let l = planned_log (rows_of deps) committed (allowed f.fine limit) f.word log in
     record { refusal = refusal_of f.fine; many = l.count - log.count; plan = record { shard = f.shard; first = log.count }; log = l }
@@ -62,9 +74,9 @@ abbrev pub waits_alone : (w committed t u : ℕ) → Bool
 waits_alone w committed t u = eqb (without (without committed w) (insert none t)) none && not (eqb (without u (insert none t)) none)
 
 -- nothing runs
-abbrev pub nothing_planned : Form → Log → Planned
+abbrev pub nothing_planned : FormRead → Log → PlanTold
 nothing_planned f log = record { refusal = refusal_of f.fine; many = 0; plan = record { shard = f.shard; first = log.count }; log = log }
 
 -- the plan until 0, where the number t has become committed and waits for u: what waits alone is seen without a walk
-unfoldable pub planned_after : Form → Waiting → (t u : ℕ) → Log → Planned
+unfoldable pub planned_after : FormRead → Waiting → (t u : ℕ) → Log → PlanTold
 planned_after f d t u log = nothing_planned f log if waits_alone f.word d.committed t u else planned_by f d.deps d.committed log 64

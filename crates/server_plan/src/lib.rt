@@ -1,15 +1,15 @@
 // What runs on a lent server, and in which order: known before any number runs.
 #![tactic(auto)]
 
-ghost use Rattle.std.specs.Prelude.{◌≡◌, ◌-◌, ◌<◌, ◌≤◌};
-ghost use Rattle.server_plan.specs.Planning.{nothing_waits, unrun_of, committed_with, waiting_in, logged_of, planned_log, planned_by, waits_alone, nothing_planned, planned_after};
+ghost use Rattle.std.specs.Prelude.{◌≡◌, ◌<◌};
+ghost use Rattle.server_read.specs.InPlace.{kept};
+ghost use Rattle.server_plan.specs.Planning.{unrun_of, committed_with, waiting_turn, waiting_in, logged_of, planned_log, planned_by, waits_alone, nothing_planned, planned_after, made};
 
 use rules::MaybeSet;
 use rules::sets::members;
 use server::{Log, Server};
 use server_read::form::Form;
 use server_run::gather::named;
-use server_run::running::{allowed, refusal_of};
 
 // What is to run: the numbers of the log after the runs from the place `first` on, at this shard.
 #[derive(Clone, Copy)]
@@ -18,10 +18,9 @@ pub struct Plan {
     pub first: u32,
 }
 
-// The plan, and what is told: the refusal or 0, and how many numbers run.
+// The plan, how many numbers run, and the log after them.
 #[derive(Clone, Copy)]
 pub struct Planned {
-    pub refusal: u32,
     pub many: u32,
     pub plan: Plan,
     pub log: Log,
@@ -34,46 +33,42 @@ pub struct Waiting {
     pub committed: u64,
 }
 
-pub fn nothing_waits() -> Waiting
-    ensures { result ≡ nothing_waits }
-{
-    Waiting {
-        deps: [0u64; 64],
-        committed: 0,
+impl Waiting {
+    // What `t` waits for that is not in the word, and whether it is committed.
+    pub fn note(&mut self, word: u64, t: usize, c: &MaybeSet)
+        requires { t < 64 }
+        ensures { self.new ≡ waiting_turn word self.old t c.now }
+    {
+        self.deps[t] = unrun_of(c, word);
+        self.committed = committed_with(self.committed, t, c);
     }
 }
 
 // The numbers of a committed set that are not in the word.
-pub fn unrun_of(c: MaybeSet, word: u64) -> u64
-    ensures { result ≡ unrun_of word c }
+pub fn unrun_of(c: &MaybeSet, word: u64) -> u64
+    ensures { result ≡ unrun_of word c.now }
 {
-    let own = named(c);
-    masks::without(members(own), word)
+    masks::without(members(named(c)), word)
 }
 
 // The committed numbers, with t if it is committed.
-pub fn committed_with(w: u64, t: usize, c: MaybeSet) -> u64
+fn committed_with(w: u64, t: usize, c: &MaybeSet) -> u64
     requires { t < 64 }
-    ensures { result ≡ committed_with w t c }
+    ensures { result ≡ committed_with w t c.now }
 {
     masks::put(w, t, c.some != 0)
 }
 
-// What the numbers below `many` wait for that is not in the word: each committed set is read in its place.
-pub fn waiting_in(s: &Server, word: u64, many: usize) -> Waiting
-    requires { many ≤ 64 }
-    ensures { result ≡ waiting_in s.now word many }
+// What the numbers wait for that is not in the word: each committed set is read in its place.
+pub fn waiting_in(s: &Server, word: u64) -> Waiting
+    ensures { result ≡ waiting_in s.now word 64 }
 {
-    let mut d = nothing_waits();
-    let mut t: usize = 0;
-    while t < many {
-        let c = s.records[t].committed;
-        let w = unrun_of(c, word);
-        d.deps[t] = w;
-        let before = d.committed;
-        let after = committed_with(before, t, c);
-        d.committed = after;
-        t += 1;
+    let mut d = Waiting {
+        deps: [0; 64],
+        committed: 0,
+    };
+    for (t, record) in s.records.iter().enumerate() {
+        d.note(word, t, &record.committed);
     }
     d
 }
@@ -83,64 +78,45 @@ fn log_group(l: &mut Log, g: u64)
     ensures { l.new ≡ logged_of l.old g 64 }
 {
     for u in 0..64 {
-        if masks::has(g, u) {
-            let n = l.count;
-            if n < 64 {
-                let end = n as usize;
-                l.list[end] = u as u32;
-                l.count = n + 1;
-            }
+        if masks::has(g, u) && l.count < 64 {
+            l.list[l.count as usize] = u as u32;
+            l.count += 1;
         }
     }
 }
 
-// The numbers of a group at the end of the log, while there is room.
-pub fn logged(log: Log, g: u64) -> Log
-    ensures { result ≡ logged_of log g 64 }
-{
-    let mut l = log;
-    log_group(&mut l, g);
-    l
-}
-
 // The log after at most `limit` runs. Where all that is committed has run, nothing is looked for.
-pub fn planned_log(rows: [u64; 64], committed: u64, ran: u64, log: Log, limit: u32) -> Log
-    ensures { result ≡ planned_log rows committed limit ran log }
+fn planned_log(rows: &[u64; 64], committed: u64, ran: u64, log: &Log, limit: u32) -> Log
+    ensures { result ≡ planned_log rows.now committed limit ran log.now }
 {
-    let mut l = log;
+    let mut l = *log;
     let mut r = ran;
-    let mut left = limit;
-    while 0 < left {
-        let done = masks::within(committed, r);
-        if done {
+    for run in 0..limit {
+        if masks::within(committed, r) {
             break;
         }
-        let g = graph::next_group_at(&rows, committed, r);
-        if g == 0 {
+        let Some(g) = graph::next_group(rows, committed, r) else {
             break;
-        }
+        };
         log_group(&mut l, g);
         r = masks::union(r, g);
-        left -= 1;
     }
     l
 }
 
 // The plan of at most `limit` runs.
-pub fn plan_by(f: Form, d: Waiting, log: Log, limit: u32) -> Planned
-    ensures { result ≡ planned_by f d.deps d.committed log limit }
+pub fn plan_by(f: Form, d: &Waiting, log: &Log, limit: u32) -> Planned
+    ensures { result ≡ made (planned_by (kept f) d.now.deps d.now.committed log.now limit) }
 {
     let mut rows = d.deps;
     graph::close(&mut rows);
-    let l = planned_log(rows, d.committed, f.word, log, allowed(f.fine, limit));
-    let plan = Plan {
-        shard: f.shard,
-        first: log.count,
-    };
+    let l = planned_log(&rows, d.committed, f.word, log, limit);
     Planned {
-        refusal: refusal_of(f.fine),
-        many: more(log.count, l.count),
-        plan,
+        many: l.count.saturating_sub(log.count),
+        plan: Plan {
+            shard: f.shard,
+            first: log.count,
+        },
         log: l,
     }
 }
@@ -155,53 +131,26 @@ fn waits_alone(word: u64, committed: u64, t: usize, u: u64) -> bool
     masks::is_empty(masks::without(left, only)) & !masks::is_empty(masks::without(u, only))
 }
 
-fn nothing_planned(f: Form, log: Log) -> Planned
-    ensures { result ≡ nothing_planned f log }
+fn nothing_planned(f: Form, log: &Log) -> Planned
+    ensures { result ≡ made (nothing_planned (kept f) log.now) }
 {
-    let plan = Plan {
-        shard: f.shard,
-        first: log.count,
-    };
     Planned {
-        refusal: refusal_of(f.fine),
         many: 0,
-        plan,
-        log: log,
+        plan: Plan {
+            shard: f.shard,
+            first: log.count,
+        },
+        log: *log,
     }
 }
 
 // The plan until 0 where the number `t` has become committed and waits for `u`. Where it waits alone, as most that wait do, no closure is made.
-pub fn plan_after(f: Form, d: Waiting, t: usize, u: u64, log: Log) -> Planned
+pub fn plan_after(f: Form, d: &Waiting, t: usize, u: u64, log: &Log) -> Planned
     requires { t < 64 }
-    ensures { result ≡ planned_after f d t u log }
+    ensures { result ≡ made (planned_after (kept f) d.now t u log.now) }
 {
-    let waits = waits_alone(f.word, d.committed, t, u);
-    if waits {
+    if waits_alone(f.word, d.committed, t, u) {
         return nothing_planned(f, log);
     }
     plan_by(f, d, log, 64)
-}
-
-fn more(a: u32, b: u32) -> u32
-    ensures { result ≡ b - a }
-{
-    if a <= b { b - a } else { 0 }
-}
-
-pub fn planned_plan(p: Planned) -> Plan
-    ensures { result ≡ p.plan }
-{
-    p.plan
-}
-
-pub fn planned_end(p: Planned) -> Log
-    ensures { result ≡ p.log }
-{
-    p.log
-}
-
-pub fn planned_many(p: Planned) -> usize
-    ensures { result ≡ p.many }
-{
-    p.many as usize
 }

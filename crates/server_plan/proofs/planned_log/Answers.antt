@@ -1,27 +1,34 @@
 -- `server_plan::planned_log` meets its contract. Assumes nothing.
-use mathlib.Core.Path.{refl, sym, ◌∙◌}
-use native.Mathlib.Omega.{arith}
+use Rattle.std.proofs.Common.{◌≡◌, ℕ, ◌-◌, ◌+◌, refl, sym, ap, ◌∙◌, arith}
 use Rattle.graph.specs.Walk.{next_group}
+use Rattle.server_plan.specs.Planning.{planned_log}
 use Rattle.server_plan.proofs.PlanTurns.{covered_none, planned-none, planned-stop, planned-more}
 use Rattle.server_plan.proofs.planned_log.Goals as goal
 
-pub loop-left-init : goal.loop-left-init
-loop-left-init c = refl
+pub loop-run-init : goal.loop-run-init
+loop-run-init c =
+    let all : c.args.limit - 0 ≡ c.args.limit = omega arith in
+    ap (λ (n : ℕ). planned_log c.args.rows.now c.args.committed n c.args.ran c.args.log.now) all
 
-pub loop-left-preserved : goal.loop-left-preserved
-loop-left-preserved c =
-    let found = c.next_group_at-g in
-    rw (c.union-r.ensures, c.log_group.ensures)
-    (sym (planned-more c.args.rows c.args.committed c.loop-left.left c.loop-left.r found.result c.loop-left.l (omega arith) found.ensures c.if-g-eq0.false) ∙ c.loop-left.invariant)
+pub loop-run-preserved : goal.loop-run-preserved
+loop-run-preserved c =
+    let left : c.args.limit - (c.loop-run.run + 1) ≡ c.args.limit - c.loop-run.run - 1 = omega arith in
+    rw (c.union-r.ensures, c.log_group.ensures, left)
+    (sym (planned-more c.args.rows.now c.args.committed (c.args.limit - c.loop-run.run) c.loop-run.r c.in-Some.g c.loop-run.l (omega arith) c.in-Some.ensures.1 c.in-Some.ensures.0) ∙ c.loop-run.invariant)
 
-pub returns-after-loop-left : goal.returns-after-loop-left
-returns-after-loop-left c = sym (planned-none c.args.rows c.args.committed c.loop-left.left c.loop-left.r c.loop-left.l (omega arith)) ∙ c.loop-left.invariant
+pub returns-after-loop-run : goal.returns-after-loop-run
+returns-after-loop-run c = sym (planned-none c.args.rows.now c.args.committed (c.args.limit - c.loop-run.run) c.loop-run.r c.loop-run.l (omega arith)) ∙ c.loop-run.invariant
 
-pub returns-then-done : goal.returns-then-done
-returns-then-done c =
-    let rows = c.args.rows in
+pub returns-then-within : goal.returns-then-within
+returns-then-within c =
+    let rows = c.args.rows.now in
     let committed = c.args.committed in
-    sym (planned-stop rows committed c.loop-left.left c.loop-left.r (next_group rows committed c.loop-left.r) c.loop-left.l refl (covered_none rows committed c.loop-left.r (sym c.within-done.ensures ∙ c.if-done.true))) ∙ c.loop-left.invariant
+    let r = c.loop-run.r in
+    sym (planned-stop rows committed (c.args.limit - c.loop-run.run) r (next_group rows committed r) c.loop-run.l refl (covered_none rows committed r (sym c.within.ensures ∙ c.if-within.true))) ∙ c.loop-run.invariant
 
-pub returns-then-g-eq0 : goal.returns-then-g-eq0
-returns-then-g-eq0 c = let found = c.next_group_at-g in sym (planned-stop c.args.rows c.args.committed c.loop-left.left c.loop-left.r found.result c.loop-left.l found.ensures c.if-g-eq0.true) ∙ c.loop-left.invariant
+pub returns-in_default : goal.returns-in_default
+returns-in_default c =
+    let rows = c.args.rows.now in
+    let committed = c.args.committed in
+    let r = c.loop-run.r in
+    sym (planned-stop rows committed (c.args.limit - c.loop-run.run) r (next_group rows committed r) c.loop-run.l refl c.in_default.ensures) ∙ c.loop-run.invariant

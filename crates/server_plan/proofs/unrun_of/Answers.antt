@@ -4,4 +4,4 @@ use Rattle.server_plan.proofs.unrun_of.Goals as goal
 
 pub returns : goal.returns
 unfolding unrun_of
-returns c = rw (c.without.ensures, c.members.ensures, c.named-own.ensures)
+returns c = rw (c.without.ensures, c.members.ensures, c.named.ensures)

@@ -1,5 +1,5 @@
--- `server_plan::waiting_in` meets its contract: each committed set below t is read in its place.
-use Rattle.std.proofs.Common.{◌∙◌, ap, ap₂, arith, add-one, slice_set, List, ℕ}
+-- `server_plan::waiting_in` meets its contract: each committed set is read in its place.
+use Rattle.std.proofs.Common.{◌≡◌, ◌∙◌, refl, ap, arith, add-one}
 use Rattle.masks.specs.Folds.{iter}
 use Rattle.server.specs.Held.{record_at}
 use Rattle.server_plan.specs.declared.Waiting.{Waiting}
@@ -8,15 +8,15 @@ use Rattle.server_plan.proofs.waiting_in.Goals as goal
 
 pub loop-t-init : goal.loop-t-init
 unfolding waiting_in iter
-loop-t-init c = (omega arith, c.nothing_waits-d.ensures)
+loop-t-init c = refl
 
 pub loop-t-preserved : goal.loop-t-preserved
 unfolding waiting_in iter
 loop-t-preserved c =
     let t = c.loop-t.t in
-    let made : List ℕ → ℕ → Waiting = λ ds w. record { deps = ds; committed = w } in (
-      omega arith,
-      rw (add-one t)
-          (ap₂ made (ap (slice_set c.loop-t.d.deps t) c.unrun_of-w.ensures) c.committed_with-after.ensures
-          ∙ ap (λ (d : Waiting). waiting_turn c.args.word d t (record_at c.args.s.now t).committed) c.loop-t.invariant.1),
-    )
+    rw (add-one t) (c.note.ensures ∙ ap (λ (d : Waiting). waiting_turn c.args.word d t (record_at c.args.s.now t).committed) c.loop-t.invariant)
+
+pub returns : goal.returns
+returns c =
+    let end : c.loop-t.t ≡ 64 = omega arith in
+    c.loop-t.invariant ∙ ap (waiting_in c.args.s.now c.args.word) end

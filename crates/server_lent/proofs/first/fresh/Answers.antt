@@ -1,15 +1,22 @@
--- `server_lent::first::fresh` meets its contract: the parts that are stored are those of a fresh server, or what stood there.
-use Rattle.std.proofs.Common.{◌∙◌}
-use Rattle.server_read.proofs.Sizes.{Told}
-use Rattle.server_lent.proofs.FirstInPlace.{fresh-fresh-records, fresh-told, fresh_left}
+-- `server_lent::first::fresh` meets its contract. Assumes nothing.
+use Rattle.std.proofs.Common.{◌≡◌, sym, ◌∙◌, arith, length}
+use Rattle.server.specs.Host.{fresh, fresh_server}
 use Rattle.server_lent.proofs.first.fresh.Goals as goal
 
-pub fresh_records-done-requires : goal.fresh_records-done-requires
-fresh_records-done-requires c = rw c.first_many-many.ensures (fresh-fresh-records c.args.s.now c.args.id)
+pub returns-then-bad_server-clause-refusal : goal.returns-then-bad_server-clause-refusal
+unfolding fresh
+returns-then-bad_server-clause-refusal c = rw (sym c.bad_server.ensures ∙ c.if-bad_server.true)
 
-pub returns : goal.returns
-returns c =
-    let told : Told c.args.s.now = c.way_told-1.given in (
-      c.first_refusal.ensures ∙ fresh-told c.args.s.now c.args.id,
-      rw (c.first_id-i.ensures, c.first_counters-c.ensures, c.first_log-l.ensures, c.fresh_records-done.ensures.1, c.first_many-many.ensures) (fresh_left c.args.s.now c.args.id told),
-    )
+pub returns-then-bad_server-clause-server : goal.returns-then-bad_server-clause-server
+unfolding fresh
+returns-then-bad_server-clause-server c = rw (sym c.bad_server.ensures ∙ c.if-bad_server.true)
+
+pub returns-clause-refusal : goal.returns-clause-refusal
+unfolding fresh
+returns-clause-refusal c = rw (sym c.bad_server.ensures ∙ c.if-bad_server.false)
+
+pub returns-clause-server : goal.returns-clause-server
+unfolding fresh fresh_server
+returns-clause-server c =
+    let long : length c.args.s.now.records ≡ 64 = omega arith in
+    rw (sym c.bad_server.ensures ∙ c.if-bad_server.false, c.no_counters-s.ensures, c.fill.ensures.after (λ y e. e), long, c.fresh_record.ensures)
