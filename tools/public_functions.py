@@ -1,7 +1,8 @@
 """The public functions of the repository's libraries: what another crate or a host can call.
 
-A function counts where it is `pub` and every module on the way to it is `pub mod`. For each: crate, path below the
-crate, the text of its `ensures` clauses, and whether it is exported to C."""
+A function counts where it is `pub` and every module on the way to it is `pub mod`; so does each function of an `impl`
+of a trait of the repository, whose clauses are the trait's. For each: crate, path below the crate, the text of its
+`ensures` clauses, the trait that binds its type parameter if it has one, and whether it is exported to C."""
 import pathlib
 import re
 from dataclasses import dataclass
@@ -16,6 +17,7 @@ class Function:
     ensures: list
     exported: bool
     body: str
+    bound: str
     uses: list
     imports: dict
 
@@ -56,20 +58,56 @@ def parameters(text, at):
         at += 1
         if depth == 0:
             break
-    return [tuple(x.strip() for x in p.split(':', 1)) for p in parts if ':' in p], at
+    named = [(p.removeprefix('&').removeprefix('mut ') + ': ' + p.replace('self', 'Self')) if re.fullmatch(r'(&(mut )?)?self', p) else p for p in parts]
+    return [tuple(x.strip() for x in p.split(':', 1)) for p in named if ':' in p], at
 
 
-def functions_of(text, prefix):
-    """Each public function of one module's text: path, parameters, type of the answer, ensures clauses, exported or not, body."""
+def type_name(text):
+    """The name that the prover gives a type: `U32`, `Set`, `Tuple2MaybeWordMaybeVote`."""
+    parts = [part.strip() for part in text.strip('()').split(',')]
+    return (f'Tuple{len(parts)}' if text.startswith('(') else '') + ''.join(part[0].upper() + part[1:] for part in parts)
+
+
+def trait_clauses(text):
+    """The ensures clauses of each function of each public trait of one module's text."""
+    found = {}
+    for m in re.finditer(r'\bpub\s+trait\s+(\w+)[^{]*\{', text):
+        body, _ = block(text, m.end() - 1)
+        found[m.group(1)] = {name: ensures for name, ensures in signatures(body)}
+    return found
+
+
+def signatures(text):
+    """The functions that a trait declares: their names and ensures clauses."""
+    for m in re.finditer(r'\bfn\s+(\w+)', text):
+        _, at = parameters(text, m.end())
+        ensures = []
+        while at < len(text) and text[at] != ';':
+            clause = re.match(r'(requires|ensures|ghost)(\s+\w+)?\s*\{', text[at:])
+            if clause:
+                inner, after = block(text, at + clause.end() - 1)
+                if clause.group(1) == 'ensures':
+                    ensures.append(' '.join(inner.split()))
+                at = after
+            else:
+                at += 1
+        yield m.group(1), ensures
+
+
+def functions_of(text, prefix, traits, inherited=None):
+    """Each public function of one module's text: path, parameters, type of the answer, ensures clauses, exported or not, body, bound."""
     at = 0
-    pattern = re.compile(r'\b(impl)\s+(\w+)\s*\{|\bpub\s+(extern "C"\s+)?fn\s+(\w+)|\bfn\s+(\w+)')
+    pattern = re.compile(r'\bimpl\s+(?:(\w+)\s+for\s+)?(\w+|\([\w, ]*\))\s*\{|\bpub\s+trait\s+\w+[^{]*\{|\bpub\s+(extern "C"\s+)?fn\s+(\w+)(?:<\w+: (\w+)>)?|\bfn\s+(\w+)')
     while True:
         m = pattern.search(text, at)
         if not m:
             return
-        if m.group(1):
+        if m.group().startswith(('impl', 'pub trait')) or m.group().split()[:2] == ['pub', 'trait']:
             body, at = block(text, m.end() - 1)
-            yield from functions_of(body, prefix + [m.group(2)])
+            if m.group(2) and m.group(1) in traits:
+                yield from functions_of(body, prefix + [type_name(m.group(2)) + m.group(1)], traits, traits[m.group(1)])
+            elif m.group(2) and not m.group(1):
+                yield from functions_of(body, prefix + [m.group(2)], traits)
             continue
         params, at = parameters(text, m.end())
         arrow = re.match(r'\s*->\s*([^\s{]+)', text[at:])
@@ -84,8 +122,9 @@ def functions_of(text, prefix):
             else:
                 at += 1
         body, at = block(text, at)
-        if m.group(4):
-            yield '::'.join(prefix + [m.group(4)]), params, arrow.group(1) if arrow else '', ensures, bool(m.group(3)), body
+        name = m.group(4) or (m.group(6) if inherited else None)
+        if name:
+            yield '::'.join(prefix + [name]), params, arrow.group(1) if arrow else '', inherited[name] if inherited else ensures, bool(m.group(3)), body, m.group(5) or ''
 
 
 def modules(folder, text, prefix):
@@ -100,13 +139,16 @@ def public_functions(root='.', roots=('lib',)):
     """Those of the libraries, or with `main` among the roots of the programs too."""
     crates = pathlib.Path(root) / 'crates'
     found = []
+    traits = {}
+    for source in sorted(crates.glob('*/src/**/*.rt')):
+        traits |= trait_clauses(without_comments(source.read_text(encoding='utf-8')))
     for lib in sorted(p for name in roots for p in crates.glob(f'*/src/{name}.rt')):
         crate = lib.parent.parent.name
         text = without_comments(lib.read_text(encoding='utf-8'))
         for prefix, body in modules(lib.parent, text, []):
             uses = re.findall(r'ghost use ([^;]+);', body)
             imports = {name.strip(): owner for owner, names in re.findall(r'(?m)^use (\w+)::(?:\w+::)*(\w+|\{[^}]*\});', body) for name in names.strip('{}').split(',')}
-            for found_one in functions_of(body, prefix):
+            for found_one in functions_of(body, prefix, traits):
                 found.append(Function(crate, *found_one, uses, imports))
     return found
 

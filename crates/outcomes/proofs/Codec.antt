@@ -4,23 +4,11 @@ use mathlib.Core.List.{List}
 use Prim.Native.Nat.{ℕ}
 use Rattle.outcomes.specs.Once.{Answers, Leaves}
 use Rattle.codec.proofs.decode.Reads as codec·decode-contract
-use Rattle.codec.proofs.is_bare.Reads as codec·is-bare-contract
-use Rattle.codec.proofs.decode_bare.Reads as codec·decode-bare-contract
-use Rattle.codec.proofs.by_fields.Reads as codec·by-fields-contract
 use Rattle.codec.proofs.encode.Reads as codec·encode-contract
 use Rattle.codec.proofs.encode_lent.Reads as codec·encode-lent-contract
 
 pub codec·decode : Answers codec·decode-contract.Post
 codec·decode κ a x y e e' p q = p ∙ sym q
-
-pub codec·is-bare : Answers codec·is-bare-contract.Post
-codec·is-bare κ a x y e e' p q = p ∙ sym q
-
-pub codec·decode-bare : Answers codec·decode-bare-contract.Post
-codec·decode-bare κ a x y e e' p q = p ∙ sym q
-
-pub codec·by-fields : Answers codec·by-fields-contract.Post
-codec·by-fields κ a x y e e' p q = p ∙ sym q
 
 pub codec·encode : Answers codec·encode-contract.Post
 codec·encode κ a x y e e' p q = p.0 ∙ sym q.0

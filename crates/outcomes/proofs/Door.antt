@@ -3,6 +3,7 @@ use mathlib.Core.Path.{sym, ◌∙◌}
 use mathlib.Core.List.{List}
 use Prim.Native.Nat.{ℕ}
 use Rattle.outcomes.specs.Once.{Answers, Leaves}
+use Rattle.drive.specs.declared.Drive.{Drive}
 use Rattle.door.proofs.exchange.message_of.Reads as door·exchange·message-of-contract
 use Rattle.door.proofs.exchange.judged.Reads as door·exchange·judged-contract
 use Rattle.door.proofs.exchange.heard.Reads as door·exchange·heard-contract
@@ -12,7 +13,7 @@ use Rattle.door.proofs.exchange.committed_of.Reads as door·exchange·committed-
 use Rattle.door.proofs.exchange.record_of.Reads as door·exchange·record-of-contract
 use Rattle.door.proofs.exchange.counted.Reads as door·exchange·counted-contract
 use Rattle.door.proofs.exchange.answered.Reads as door·exchange·answered-contract
-use Rattle.door.proofs.exchange.weigh_reply.Reads as door·exchange·weigh-reply-contract
+use Rattle.door.proofs.exchange.take_reply.Reads as door·exchange·take-reply-contract
 use Rattle.door.proofs.exchange.post.Reads as door·exchange·post-contract
 use Rattle.door.proofs.readings.counter.Reads as door·readings·counter-contract
 use Rattle.door.proofs.readings.log_entry.Reads as door·readings·log-entry-contract
@@ -58,8 +59,11 @@ door·exchange·answered κ a x y e e' p q = p.0 ∙ sym q.0
 pub door·exchange·answered·leaves-output : Leaves {B = List ℕ} (λ κ e. e.1.0.now) door·exchange·answered-contract.Post
 door·exchange·answered·leaves-output κ a x y e e' p q = p.1 ∙ sym q.1
 
-pub door·exchange·weigh-reply : Answers door·exchange·weigh-reply-contract.Post
-door·exchange·weigh-reply κ a x y e e' p q = p ∙ sym q
+pub door·exchange·take-reply : Answers door·exchange·take-reply-contract.Post
+door·exchange·take-reply κ a x y e e' p q = p.0 ∙ sym q.0
+
+pub door·exchange·take-reply·leaves-d : Leaves {B = Drive} (λ κ e. e.0.now) door·exchange·take-reply-contract.Post
+door·exchange·take-reply·leaves-d κ a x y e e' p q = p.1 ∙ sym q.1
 
 pub door·exchange·post : Answers door·exchange·post-contract.Post
 door·exchange·post κ a x y e e' p q = p.0 ∙ sym q.0

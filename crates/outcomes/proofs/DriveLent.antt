@@ -2,15 +2,7 @@
 use mathlib.Core.Path.{sym, ◌∙◌}
 use Rattle.outcomes.specs.Once.{Answers, Leaves}
 use Rattle.drive.specs.declared.Drive.{Drive}
-use Rattle.drive_lent.proofs.refusal_of.Reads as drive-lent·refusal-of-contract
-use Rattle.drive_lent.proofs.drive_of.Reads as drive-lent·drive-of-contract
 use Rattle.drive_lent.proofs.hear_lent.Reads as drive-lent·hear-lent-contract
-
-pub drive-lent·refusal-of : Answers drive-lent·refusal-of-contract.Post
-drive-lent·refusal-of κ a x y e e' p q = p ∙ sym q
-
-pub drive-lent·drive-of : Answers drive-lent·drive-of-contract.Post
-drive-lent·drive-of κ a x y e e' p q = p ∙ sym q
 
 pub drive-lent·hear-lent : Answers drive-lent·hear-lent-contract.Post
 drive-lent·hear-lent κ a x y e e' p q = p.0 ∙ sym q.0

@@ -3,7 +3,7 @@ use mathlib.Core.Path.{sym, ◌∙◌}
 use mathlib.Core.List.{List}
 use Prim.Native.Nat.{ℕ}
 use Rattle.outcomes.specs.Once.{Answers, Leaves}
-use Rattle.encoding.proofs.refused.Reads as encoding·refused-contract
+use Rattle.outcomes.proofs.Forms.{told_of-one}
 use Rattle.encoding.proofs.cost.Reads as encoding·cost-contract
 use Rattle.encoding.proofs.front_length.Reads as encoding·front-length-contract
 use Rattle.encoding.proofs.bare.Reads as encoding·bare-contract
@@ -16,9 +16,6 @@ use Rattle.encoding.proofs.shapes.answered.Reads as encoding·shapes·answered-c
 use Rattle.encoding.proofs.shapes.asked_shape.Reads as encoding·shapes·asked-shape-contract
 use Rattle.encoding.proofs.shapes.answered_shape.Reads as encoding·shapes·answered-shape-contract
 
-pub encoding·refused : Answers encoding·refused-contract.Post
-encoding·refused κ a x y e e' p q = p ∙ sym q
-
 pub encoding·cost : Answers encoding·cost-contract.Post
 encoding·cost κ a x y e e' p q = p.0 ∙ sym q.0
 
@@ -26,19 +23,19 @@ pub encoding·front-length : Answers encoding·front-length-contract.Post
 encoding·front-length κ a x y e e' p q = p.0 ∙ sym q.0
 
 pub encoding·bare : Answers encoding·bare-contract.Post
-encoding·bare κ a x y e e' p q = p.0 ∙ sym q.0
+encoding·bare κ a x y e e' p q = told_of-one x y (p.0 ∙ sym q.0)
 
 pub encoding·bare·leaves-out : Leaves {B = List ℕ} (λ κ e. e.0.now) encoding·bare-contract.Post
 encoding·bare·leaves-out κ a x y e e' p q = p.1 ∙ sym q.1
 
 pub encoding·asked : Answers encoding·asked-contract.Post
-encoding·asked κ a x y e e' p q = p.0 ∙ sym q.0
+encoding·asked κ a x y e e' p q = told_of-one x y (p.0 ∙ sym q.0)
 
 pub encoding·asked·leaves-out : Leaves {B = List ℕ} (λ κ e. e.0.now) encoding·asked-contract.Post
 encoding·asked·leaves-out κ a x y e e' p q = p.1 ∙ sym q.1
 
 pub encoding·answered : Answers encoding·answered-contract.Post
-encoding·answered κ a x y e e' p q = p.0 ∙ sym q.0
+encoding·answered κ a x y e e' p q = told_of-one x y (p.0 ∙ sym q.0)
 
 pub encoding·answered·leaves-out : Leaves {B = List ℕ} (λ κ e. e.0.now) encoding·answered-contract.Post
 encoding·answered·leaves-out κ a x y e e' p q = p.1 ∙ sym q.1

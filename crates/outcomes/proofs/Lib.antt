@@ -26,3 +26,5 @@ pub mod ServerStep
 pub mod Station
 pub mod Transaction
 pub mod Xdr
+pub mod Forms
+pub mod ByHand

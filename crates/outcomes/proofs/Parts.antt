@@ -3,168 +3,152 @@ use mathlib.Core.Path.{sym, ◌∙◌}
 use mathlib.Core.List.{List}
 use Prim.Native.Nat.{ℕ}
 use Rattle.outcomes.specs.Once.{Answers, Leaves}
-use Rattle.parts.proofs.get_arrays.get_piece.Reads as parts·get-arrays·get-piece-contract
-use Rattle.parts.proofs.get_arrays.get_piece_list.Reads as parts·get-arrays·get-piece-list-contract
-use Rattle.parts.proofs.get_arrays.get_pieces_if.Reads as parts·get-arrays·get-pieces-if-contract
-use Rattle.parts.proofs.get_arrays.get_value.Reads as parts·get-arrays·get-value-contract
-use Rattle.parts.proofs.get_arrays.get_value_list.Reads as parts·get-arrays·get-value-list-contract
-use Rattle.parts.proofs.get_arrays.get_values_if.Reads as parts·get-arrays·get-values-if-contract
-use Rattle.parts.proofs.get_parts.number.Reads as parts·get-parts·number-contract
-use Rattle.parts.proofs.get_parts.get_u32_if.Reads as parts·get-parts·get-u32-if-contract
-use Rattle.parts.proofs.get_parts.get_u64_if.Reads as parts·get-parts·get-u64-if-contract
-use Rattle.parts.proofs.get_parts.get_set.Reads as parts·get-parts·get-set-contract
-use Rattle.parts.proofs.get_parts.get_set_if.Reads as parts·get-parts·get-set-if-contract
-use Rattle.parts.proofs.get_parts.get_maybe_word.Reads as parts·get-parts·get-maybe-word-contract
-use Rattle.parts.proofs.get_parts.get_maybe_vote.Reads as parts·get-parts·get-maybe-vote-contract
-use Rattle.parts.proofs.get_parts.get_prepared_if.Reads as parts·get-parts·get-prepared-if-contract
-use Rattle.parts.proofs.put_arrays.put_piece_if.Reads as parts·put-arrays·put-piece-if-contract
-use Rattle.parts.proofs.put_arrays.put_piece_list.Reads as parts·put-arrays·put-piece-list-contract
-use Rattle.parts.proofs.put_arrays.put_pieces_if.Reads as parts·put-arrays·put-pieces-if-contract
-use Rattle.parts.proofs.put_arrays.put_value_if.Reads as parts·put-arrays·put-value-if-contract
-use Rattle.parts.proofs.put_arrays.put_value_list.Reads as parts·put-arrays·put-value-list-contract
-use Rattle.parts.proofs.put_arrays.put_values_if.Reads as parts·put-arrays·put-values-if-contract
-use Rattle.parts.proofs.put_parts.put_u32_at.Reads as parts·put-parts·put-u32-at-contract
-use Rattle.parts.proofs.put_parts.put_i32_at.Reads as parts·put-parts·put-i32-at-contract
-use Rattle.parts.proofs.put_parts.put_bool_at.Reads as parts·put-parts·put-bool-at-contract
-use Rattle.parts.proofs.put_parts.put_u32_if.Reads as parts·put-parts·put-u32-if-contract
-use Rattle.parts.proofs.put_parts.put_u64_if.Reads as parts·put-parts·put-u64-if-contract
-use Rattle.parts.proofs.put_parts.put_set.Reads as parts·put-parts·put-set-contract
-use Rattle.parts.proofs.put_parts.put_set_if.Reads as parts·put-parts·put-set-if-contract
-use Rattle.parts.proofs.put_parts.put_maybe_word.Reads as parts·put-parts·put-maybe-word-contract
-use Rattle.parts.proofs.put_parts.put_maybe_vote.Reads as parts·put-parts·put-maybe-vote-contract
-use Rattle.parts.proofs.put_parts.put_prepared_if.Reads as parts·put-parts·put-prepared-if-contract
+use Rattle.parts.proofs.arrays.PieceItem.get.Reads as parts·arrays·PieceItem·get-contract
+use Rattle.parts.proofs.arrays.PieceItem.put.Reads as parts·arrays·PieceItem·put-contract
+use Rattle.parts.proofs.arrays.PiecesItem.get.Reads as parts·arrays·PiecesItem·get-contract
+use Rattle.parts.proofs.arrays.PiecesItem.put.Reads as parts·arrays·PiecesItem·put-contract
+use Rattle.parts.proofs.arrays.ValueItem.get.Reads as parts·arrays·ValueItem·get-contract
+use Rattle.parts.proofs.arrays.ValueItem.put.Reads as parts·arrays·ValueItem·put-contract
+use Rattle.parts.proofs.arrays.ValuesItem.get.Reads as parts·arrays·ValuesItem·get-contract
+use Rattle.parts.proofs.arrays.ValuesItem.put.Reads as parts·arrays·ValuesItem·put-contract
+use Rattle.parts.proofs.item.U32Item.get.Reads as parts·item·U32Item·get-contract
+use Rattle.parts.proofs.item.U32Item.put.Reads as parts·item·U32Item·put-contract
+use Rattle.parts.proofs.item.U64Item.get.Reads as parts·item·U64Item·get-contract
+use Rattle.parts.proofs.item.U64Item.put.Reads as parts·item·U64Item·put-contract
+use Rattle.parts.proofs.item.put_if.Reads as parts·item·put-if-contract
+use Rattle.parts.proofs.item.get_if.Reads as parts·item·get-if-contract
+use Rattle.parts.proofs.item.put_all.Reads as parts·item·put-all-contract
+use Rattle.parts.proofs.item.get_all.Reads as parts·item·get-all-contract
+use Rattle.parts.proofs.item.put_rows.Reads as parts·item·put-rows-contract
+use Rattle.parts.proofs.item.get_rows.Reads as parts·item·get-rows-contract
+use Rattle.parts.proofs.parts.SetItem.get.Reads as parts·parts·SetItem·get-contract
+use Rattle.parts.proofs.parts.SetItem.put.Reads as parts·parts·SetItem·put-contract
+use Rattle.parts.proofs.parts.MaybeWordItem.get.Reads as parts·parts·MaybeWordItem·get-contract
+use Rattle.parts.proofs.parts.MaybeWordItem.put.Reads as parts·parts·MaybeWordItem·put-contract
+use Rattle.parts.proofs.parts.MaybeVoteItem.get.Reads as parts·parts·MaybeVoteItem·get-contract
+use Rattle.parts.proofs.parts.MaybeVoteItem.put.Reads as parts·parts·MaybeVoteItem·put-contract
+use Rattle.parts.proofs.parts.Tuple2MaybeWordMaybeVoteItem.get.Reads as parts·parts·Tuple2MaybeWordMaybeVoteItem·get-contract
+use Rattle.parts.proofs.parts.Tuple2MaybeWordMaybeVoteItem.put.Reads as parts·parts·Tuple2MaybeWordMaybeVoteItem·put-contract
 
-pub parts·get-arrays·get-piece : Answers parts·get-arrays·get-piece-contract.Post
-parts·get-arrays·get-piece κ a x y e e' p q = λ i. record { v = (p.value ∙ sym q.value) i; next = (p.next ∙ sym q.next) i }
+pub parts·arrays·PieceItem·get : Answers parts·arrays·PieceItem·get-contract.Post
+parts·arrays·PieceItem·get κ a x y e e' p q = λ i. record { v = (p.value ∙ sym q.value) i; next = (p.next ∙ sym q.next) i }
 
-pub parts·get-arrays·get-piece-list : Answers parts·get-arrays·get-piece-list-contract.Post
-parts·get-arrays·get-piece-list κ a x y e e' p q = λ i. record { v = (p.0 ∙ sym q.0) i; next = (p.1 ∙ sym q.1) i }
+pub parts·arrays·PieceItem·put : Answers parts·arrays·PieceItem·put-contract.Post
+parts·arrays·PieceItem·put κ a x y e e' p q = p.next ∙ sym q.next
 
-pub parts·get-arrays·get-pieces-if : Answers parts·get-arrays·get-pieces-if-contract.Post
-parts·get-arrays·get-pieces-if κ a x y e e' p q = λ i. record { v = (p.value ∙ sym q.value) i; next = (p.next ∙ sym q.next) i }
+pub parts·arrays·PieceItem·put·leaves-out : Leaves {B = List ℕ} (λ κ e. e.1.0.now) parts·arrays·PieceItem·put-contract.Post
+parts·arrays·PieceItem·put·leaves-out κ a x y e e' p q = p.bytes ∙ sym q.bytes
 
-pub parts·get-arrays·get-value : Answers parts·get-arrays·get-value-contract.Post
-parts·get-arrays·get-value κ a x y e e' p q = λ i. record { v = (p.value ∙ sym q.value) i; next = (p.next ∙ sym q.next) i }
+pub parts·arrays·PiecesItem·get : Answers parts·arrays·PiecesItem·get-contract.Post
+parts·arrays·PiecesItem·get κ a x y e e' p q = λ i. record { v = (p.value ∙ sym q.value) i; next = (p.next ∙ sym q.next) i }
 
-pub parts·get-arrays·get-value-list : Answers parts·get-arrays·get-value-list-contract.Post
-parts·get-arrays·get-value-list κ a x y e e' p q = λ i. record { v = (p.0 ∙ sym q.0) i; next = (p.1 ∙ sym q.1) i }
+pub parts·arrays·PiecesItem·put : Answers parts·arrays·PiecesItem·put-contract.Post
+parts·arrays·PiecesItem·put κ a x y e e' p q = p.next ∙ sym q.next
 
-pub parts·get-arrays·get-values-if : Answers parts·get-arrays·get-values-if-contract.Post
-parts·get-arrays·get-values-if κ a x y e e' p q = λ i. record { v = (p.value ∙ sym q.value) i; next = (p.next ∙ sym q.next) i }
+pub parts·arrays·PiecesItem·put·leaves-out : Leaves {B = List ℕ} (λ κ e. e.1.0.now) parts·arrays·PiecesItem·put-contract.Post
+parts·arrays·PiecesItem·put·leaves-out κ a x y e e' p q = p.bytes ∙ sym q.bytes
 
-pub parts·get-parts·number : Answers parts·get-parts·number-contract.Post
-parts·get-parts·number κ a x y e e' p q = p ∙ sym q
+pub parts·arrays·ValueItem·get : Answers parts·arrays·ValueItem·get-contract.Post
+parts·arrays·ValueItem·get κ a x y e e' p q = λ i. record { v = (p.value ∙ sym q.value) i; next = (p.next ∙ sym q.next) i }
 
-pub parts·get-parts·get-u32-if : Answers parts·get-parts·get-u32-if-contract.Post
-parts·get-parts·get-u32-if κ a x y e e' p q = λ i. record { v = (p.value ∙ sym q.value) i; next = (p.next ∙ sym q.next) i }
+pub parts·arrays·ValueItem·put : Answers parts·arrays·ValueItem·put-contract.Post
+parts·arrays·ValueItem·put κ a x y e e' p q = p.next ∙ sym q.next
 
-pub parts·get-parts·get-u64-if : Answers parts·get-parts·get-u64-if-contract.Post
-parts·get-parts·get-u64-if κ a x y e e' p q = λ i. record { v = (p.value ∙ sym q.value) i; next = (p.next ∙ sym q.next) i }
+pub parts·arrays·ValueItem·put·leaves-out : Leaves {B = List ℕ} (λ κ e. e.1.0.now) parts·arrays·ValueItem·put-contract.Post
+parts·arrays·ValueItem·put·leaves-out κ a x y e e' p q = p.bytes ∙ sym q.bytes
 
-pub parts·get-parts·get-set : Answers parts·get-parts·get-set-contract.Post
-parts·get-parts·get-set κ a x y e e' p q = λ i. record { v = (p.value ∙ sym q.value) i; next = (p.next ∙ sym q.next) i }
+pub parts·arrays·ValuesItem·get : Answers parts·arrays·ValuesItem·get-contract.Post
+parts·arrays·ValuesItem·get κ a x y e e' p q = λ i. record { v = (p.value ∙ sym q.value) i; next = (p.next ∙ sym q.next) i }
 
-pub parts·get-parts·get-set-if : Answers parts·get-parts·get-set-if-contract.Post
-parts·get-parts·get-set-if κ a x y e e' p q = λ i. record { v = (p.value ∙ sym q.value) i; next = (p.next ∙ sym q.next) i }
+pub parts·arrays·ValuesItem·put : Answers parts·arrays·ValuesItem·put-contract.Post
+parts·arrays·ValuesItem·put κ a x y e e' p q = p.next ∙ sym q.next
 
-pub parts·get-parts·get-maybe-word : Answers parts·get-parts·get-maybe-word-contract.Post
-parts·get-parts·get-maybe-word κ a x y e e' p q = λ i. record { v = (p.value ∙ sym q.value) i; next = (p.next ∙ sym q.next) i }
+pub parts·arrays·ValuesItem·put·leaves-out : Leaves {B = List ℕ} (λ κ e. e.1.0.now) parts·arrays·ValuesItem·put-contract.Post
+parts·arrays·ValuesItem·put·leaves-out κ a x y e e' p q = p.bytes ∙ sym q.bytes
 
-pub parts·get-parts·get-maybe-vote : Answers parts·get-parts·get-maybe-vote-contract.Post
-parts·get-parts·get-maybe-vote κ a x y e e' p q = λ i. record { v = (p.value ∙ sym q.value) i; next = (p.next ∙ sym q.next) i }
+pub parts·item·U32Item·get : Answers parts·item·U32Item·get-contract.Post
+parts·item·U32Item·get κ a x y e e' p q = λ i. record { v = (p.value ∙ sym q.value) i; next = (p.next ∙ sym q.next) i }
 
-pub parts·get-parts·get-prepared-if : Answers parts·get-parts·get-prepared-if-contract.Post
-parts·get-parts·get-prepared-if κ a x y e e' p q = λ i. record { arrival = ((p.value ∙ sym q.value) i).0; accepted = ((p.value ∙ sym q.value) i).1; next = (p.next ∙ sym q.next) i }
+pub parts·item·U32Item·put : Answers parts·item·U32Item·put-contract.Post
+parts·item·U32Item·put κ a x y e e' p q = p.next ∙ sym q.next
 
-pub parts·put-arrays·put-piece-if : Answers parts·put-arrays·put-piece-if-contract.Post
-parts·put-arrays·put-piece-if κ a x y e e' p q = p.next ∙ sym q.next
+pub parts·item·U32Item·put·leaves-out : Leaves {B = List ℕ} (λ κ e. e.1.0.now) parts·item·U32Item·put-contract.Post
+parts·item·U32Item·put·leaves-out κ a x y e e' p q = p.bytes ∙ sym q.bytes
 
-pub parts·put-arrays·put-piece-if·leaves-out : Leaves {B = List ℕ} (λ κ e. e.0.now) parts·put-arrays·put-piece-if-contract.Post
-parts·put-arrays·put-piece-if·leaves-out κ a x y e e' p q = p.bytes ∙ sym q.bytes
+pub parts·item·U64Item·get : Answers parts·item·U64Item·get-contract.Post
+parts·item·U64Item·get κ a x y e e' p q = λ i. record { v = (p.value ∙ sym q.value) i; next = (p.next ∙ sym q.next) i }
 
-pub parts·put-arrays·put-piece-list : Answers parts·put-arrays·put-piece-list-contract.Post
-parts·put-arrays·put-piece-list κ a x y e e' p q = p.next ∙ sym q.next
+pub parts·item·U64Item·put : Answers parts·item·U64Item·put-contract.Post
+parts·item·U64Item·put κ a x y e e' p q = p.next ∙ sym q.next
 
-pub parts·put-arrays·put-piece-list·leaves-out : Leaves {B = List ℕ} (λ κ e. e.0.now) parts·put-arrays·put-piece-list-contract.Post
-parts·put-arrays·put-piece-list·leaves-out κ a x y e e' p q = p.bytes ∙ sym q.bytes
+pub parts·item·U64Item·put·leaves-out : Leaves {B = List ℕ} (λ κ e. e.1.0.now) parts·item·U64Item·put-contract.Post
+parts·item·U64Item·put·leaves-out κ a x y e e' p q = p.bytes ∙ sym q.bytes
 
-pub parts·put-arrays·put-pieces-if : Answers parts·put-arrays·put-pieces-if-contract.Post
-parts·put-arrays·put-pieces-if κ a x y e e' p q = p.next ∙ sym q.next
+pub parts·item·put-if : (T : _) (L : _) (C : _) (G : _) (d : _) (K : _) (d' : _) (F : _) (d'' : _) → Answers (parts·item·put-if-contract.Post T L C G d K d' F d'')
+parts·item·put-if T L C G d K d' F d'' κ a x y e e' p q = p.next ∙ sym q.next
 
-pub parts·put-arrays·put-pieces-if·leaves-out : Leaves {B = List ℕ} (λ κ e. e.0.now) parts·put-arrays·put-pieces-if-contract.Post
-parts·put-arrays·put-pieces-if·leaves-out κ a x y e e' p q = p.bytes ∙ sym q.bytes
+pub parts·item·put-if·leaves-out : (T : _) (L : _) (C : _) (G : _) (d : _) (K : _) (d' : _) (F : _) (d'' : _) → Leaves {B = List ℕ} (λ κ e. e.0.now) (parts·item·put-if-contract.Post T L C G d K d' F d'')
+parts·item·put-if·leaves-out T L C G d K d' F d'' κ a x y e e' p q = p.bytes ∙ sym q.bytes
 
-pub parts·put-arrays·put-value-if : Answers parts·put-arrays·put-value-if-contract.Post
-parts·put-arrays·put-value-if κ a x y e e' p q = p.next ∙ sym q.next
+pub parts·item·get-if : (T : _) (L : _) (C : _) (G : _) (d : _) (K : _) (d' : _) (F : _) (d'' : _) → Answers (parts·item·get-if-contract.Post T L C G d K d' F d'')
+parts·item·get-if T L C G d K d' F d'' κ a x y e e' p q = λ i. record { v = (p.value ∙ sym q.value) i; next = (p.next ∙ sym q.next) i }
 
-pub parts·put-arrays·put-value-if·leaves-out : Leaves {B = List ℕ} (λ κ e. e.0.now) parts·put-arrays·put-value-if-contract.Post
-parts·put-arrays·put-value-if·leaves-out κ a x y e e' p q = p.bytes ∙ sym q.bytes
+pub parts·item·put-all : (T : _) (L : _) (C : _) (G : _) (d : _) (K : _) (d' : _) (F : _) (d'' : _) → Answers (parts·item·put-all-contract.Post T L C G d K d' F d'')
+parts·item·put-all T L C G d K d' F d'' κ a x y e e' p q = p.next ∙ sym q.next
 
-pub parts·put-arrays·put-value-list : Answers parts·put-arrays·put-value-list-contract.Post
-parts·put-arrays·put-value-list κ a x y e e' p q = p.next ∙ sym q.next
+pub parts·item·put-all·leaves-out : (T : _) (L : _) (C : _) (G : _) (d : _) (K : _) (d' : _) (F : _) (d'' : _) → Leaves {B = List ℕ} (λ κ e. e.0.now) (parts·item·put-all-contract.Post T L C G d K d' F d'')
+parts·item·put-all·leaves-out T L C G d K d' F d'' κ a x y e e' p q = p.bytes ∙ sym q.bytes
 
-pub parts·put-arrays·put-value-list·leaves-out : Leaves {B = List ℕ} (λ κ e. e.0.now) parts·put-arrays·put-value-list-contract.Post
-parts·put-arrays·put-value-list·leaves-out κ a x y e e' p q = p.bytes ∙ sym q.bytes
+pub parts·item·get-all : (T : _) (L : _) (C : _) (G : _) (d : _) (K : _) (d' : _) (F : _) (d'' : _) → Answers (parts·item·get-all-contract.Post T L C G d K d' F d'')
+parts·item·get-all T L C G d K d' F d'' κ a x y e e' p q = p.1 ∙ sym q.1
 
-pub parts·put-arrays·put-values-if : Answers parts·put-arrays·put-values-if-contract.Post
-parts·put-arrays·put-values-if κ a x y e e' p q = p.next ∙ sym q.next
+pub parts·item·get-all·leaves-items : (T : _) (L : _) (C : _) (G : _) (d : _) (K : _) (d' : _) (F : _) (d'' : _) → Leaves {B = List T.Denot} (λ κ e. e.1.1.0.now) (parts·item·get-all-contract.Post T L C G d K d' F d'')
+parts·item·get-all·leaves-items T L C G d K d' F d'' κ a x y e e' p q = p.0 ∙ sym q.0
 
-pub parts·put-arrays·put-values-if·leaves-out : Leaves {B = List ℕ} (λ κ e. e.0.now) parts·put-arrays·put-values-if-contract.Post
-parts·put-arrays·put-values-if·leaves-out κ a x y e e' p q = p.bytes ∙ sym q.bytes
+pub parts·item·put-rows : (T : _) (L : _) (C : _) (G : _) (d : _) (K : _) (d' : _) (F : _) (d'' : _) → Answers (parts·item·put-rows-contract.Post T L C G d K d' F d'')
+parts·item·put-rows T L C G d K d' F d'' κ a x y e e' p q = p.next ∙ sym q.next
 
-pub parts·put-parts·put-u32-at : Answers parts·put-parts·put-u32-at-contract.Post
-parts·put-parts·put-u32-at κ a x y e e' p q = p.next ∙ sym q.next
+pub parts·item·put-rows·leaves-out : (T : _) (L : _) (C : _) (G : _) (d : _) (K : _) (d' : _) (F : _) (d'' : _) → Leaves {B = List ℕ} (λ κ e. e.0.now) (parts·item·put-rows-contract.Post T L C G d K d' F d'')
+parts·item·put-rows·leaves-out T L C G d K d' F d'' κ a x y e e' p q = p.bytes ∙ sym q.bytes
 
-pub parts·put-parts·put-u32-at·leaves-out : Leaves {B = List ℕ} (λ κ e. e.0.now) parts·put-parts·put-u32-at-contract.Post
-parts·put-parts·put-u32-at·leaves-out κ a x y e e' p q = p.bytes ∙ sym q.bytes
+pub parts·item·get-rows : (T : _) (L : _) (C : _) (G : _) (d : _) (K : _) (d' : _) (F : _) (d'' : _) → Answers (parts·item·get-rows-contract.Post T L C G d K d' F d'')
+parts·item·get-rows T L C G d K d' F d'' κ a x y e e' p q = λ i. record { v = ((p.value ∙ sym q.value) i).0; next = (p.next ∙ sym q.next) i }
 
-pub parts·put-parts·put-i32-at : Answers parts·put-parts·put-i32-at-contract.Post
-parts·put-parts·put-i32-at κ a x y e e' p q = p.next ∙ sym q.next
+pub parts·item·get-rows·leaves-list : (T : _) (L : _) (C : _) (G : _) (d : _) (K : _) (d' : _) (F : _) (d'' : _) → Leaves {B = List T.Denot} (λ κ e. e.1.1.0.now) (parts·item·get-rows-contract.Post T L C G d K d' F d'')
+parts·item·get-rows·leaves-list T L C G d K d' F d'' κ a x y e e' p q = λ i. ((p.value ∙ sym q.value) i).1
 
-pub parts·put-parts·put-i32-at·leaves-out : Leaves {B = List ℕ} (λ κ e. e.0.now) parts·put-parts·put-i32-at-contract.Post
-parts·put-parts·put-i32-at·leaves-out κ a x y e e' p q = p.bytes ∙ sym q.bytes
+pub parts·parts·SetItem·get : Answers parts·parts·SetItem·get-contract.Post
+parts·parts·SetItem·get κ a x y e e' p q = λ i. record { v = (p.value ∙ sym q.value) i; next = (p.next ∙ sym q.next) i }
 
-pub parts·put-parts·put-bool-at : Answers parts·put-parts·put-bool-at-contract.Post
-parts·put-parts·put-bool-at κ a x y e e' p q = p.next ∙ sym q.next
+pub parts·parts·SetItem·put : Answers parts·parts·SetItem·put-contract.Post
+parts·parts·SetItem·put κ a x y e e' p q = p.next ∙ sym q.next
 
-pub parts·put-parts·put-bool-at·leaves-out : Leaves {B = List ℕ} (λ κ e. e.0.now) parts·put-parts·put-bool-at-contract.Post
-parts·put-parts·put-bool-at·leaves-out κ a x y e e' p q = p.bytes ∙ sym q.bytes
+pub parts·parts·SetItem·put·leaves-out : Leaves {B = List ℕ} (λ κ e. e.1.0.now) parts·parts·SetItem·put-contract.Post
+parts·parts·SetItem·put·leaves-out κ a x y e e' p q = p.bytes ∙ sym q.bytes
 
-pub parts·put-parts·put-u32-if : Answers parts·put-parts·put-u32-if-contract.Post
-parts·put-parts·put-u32-if κ a x y e e' p q = p.next ∙ sym q.next
+pub parts·parts·MaybeWordItem·get : Answers parts·parts·MaybeWordItem·get-contract.Post
+parts·parts·MaybeWordItem·get κ a x y e e' p q = λ i. record { v = (p.value ∙ sym q.value) i; next = (p.next ∙ sym q.next) i }
 
-pub parts·put-parts·put-u32-if·leaves-out : Leaves {B = List ℕ} (λ κ e. e.0.now) parts·put-parts·put-u32-if-contract.Post
-parts·put-parts·put-u32-if·leaves-out κ a x y e e' p q = p.bytes ∙ sym q.bytes
+pub parts·parts·MaybeWordItem·put : Answers parts·parts·MaybeWordItem·put-contract.Post
+parts·parts·MaybeWordItem·put κ a x y e e' p q = p.next ∙ sym q.next
 
-pub parts·put-parts·put-u64-if : Answers parts·put-parts·put-u64-if-contract.Post
-parts·put-parts·put-u64-if κ a x y e e' p q = p.next ∙ sym q.next
+pub parts·parts·MaybeWordItem·put·leaves-out : Leaves {B = List ℕ} (λ κ e. e.1.0.now) parts·parts·MaybeWordItem·put-contract.Post
+parts·parts·MaybeWordItem·put·leaves-out κ a x y e e' p q = p.bytes ∙ sym q.bytes
 
-pub parts·put-parts·put-u64-if·leaves-out : Leaves {B = List ℕ} (λ κ e. e.0.now) parts·put-parts·put-u64-if-contract.Post
-parts·put-parts·put-u64-if·leaves-out κ a x y e e' p q = p.bytes ∙ sym q.bytes
+pub parts·parts·MaybeVoteItem·get : Answers parts·parts·MaybeVoteItem·get-contract.Post
+parts·parts·MaybeVoteItem·get κ a x y e e' p q = λ i. record { v = (p.value ∙ sym q.value) i; next = (p.next ∙ sym q.next) i }
 
-pub parts·put-parts·put-set : Leaves {B = List ℕ} (λ κ e. e.0.now) parts·put-parts·put-set-contract.Post
-parts·put-parts·put-set κ a x y e e' p q = p ∙ sym q
+pub parts·parts·MaybeVoteItem·put : Answers parts·parts·MaybeVoteItem·put-contract.Post
+parts·parts·MaybeVoteItem·put κ a x y e e' p q = p.next ∙ sym q.next
 
-pub parts·put-parts·put-set-if : Answers parts·put-parts·put-set-if-contract.Post
-parts·put-parts·put-set-if κ a x y e e' p q = p.next ∙ sym q.next
+pub parts·parts·MaybeVoteItem·put·leaves-out : Leaves {B = List ℕ} (λ κ e. e.1.0.now) parts·parts·MaybeVoteItem·put-contract.Post
+parts·parts·MaybeVoteItem·put·leaves-out κ a x y e e' p q = p.bytes ∙ sym q.bytes
 
-pub parts·put-parts·put-set-if·leaves-out : Leaves {B = List ℕ} (λ κ e. e.0.now) parts·put-parts·put-set-if-contract.Post
-parts·put-parts·put-set-if·leaves-out κ a x y e e' p q = p.bytes ∙ sym q.bytes
+pub parts·parts·Tuple2MaybeWordMaybeVoteItem·get : Answers parts·parts·Tuple2MaybeWordMaybeVoteItem·get-contract.Post
+parts·parts·Tuple2MaybeWordMaybeVoteItem·get κ a x y e e' p q = λ i. record { v = (p.value ∙ sym q.value) i; next = (p.next ∙ sym q.next) i }
 
-pub parts·put-parts·put-maybe-word : Answers parts·put-parts·put-maybe-word-contract.Post
-parts·put-parts·put-maybe-word κ a x y e e' p q = p.next ∙ sym q.next
+pub parts·parts·Tuple2MaybeWordMaybeVoteItem·put : Answers parts·parts·Tuple2MaybeWordMaybeVoteItem·put-contract.Post
+parts·parts·Tuple2MaybeWordMaybeVoteItem·put κ a x y e e' p q = p.next ∙ sym q.next
 
-pub parts·put-parts·put-maybe-word·leaves-out : Leaves {B = List ℕ} (λ κ e. e.0.now) parts·put-parts·put-maybe-word-contract.Post
-parts·put-parts·put-maybe-word·leaves-out κ a x y e e' p q = p.bytes ∙ sym q.bytes
-
-pub parts·put-parts·put-maybe-vote : Answers parts·put-parts·put-maybe-vote-contract.Post
-parts·put-parts·put-maybe-vote κ a x y e e' p q = p.next ∙ sym q.next
-
-pub parts·put-parts·put-maybe-vote·leaves-out : Leaves {B = List ℕ} (λ κ e. e.0.now) parts·put-parts·put-maybe-vote-contract.Post
-parts·put-parts·put-maybe-vote·leaves-out κ a x y e e' p q = p.bytes ∙ sym q.bytes
-
-pub parts·put-parts·put-prepared-if : Answers parts·put-parts·put-prepared-if-contract.Post
-parts·put-parts·put-prepared-if κ a x y e e' p q = p.next ∙ sym q.next
-
-pub parts·put-parts·put-prepared-if·leaves-out : Leaves {B = List ℕ} (λ κ e. e.0.now) parts·put-parts·put-prepared-if-contract.Post
-parts·put-parts·put-prepared-if·leaves-out κ a x y e e' p q = p.bytes ∙ sym q.bytes
+pub parts·parts·Tuple2MaybeWordMaybeVoteItem·put·leaves-out : Leaves {B = List ℕ} (λ κ e. e.1.0.now) parts·parts·Tuple2MaybeWordMaybeVoteItem·put-contract.Post
+parts·parts·Tuple2MaybeWordMaybeVoteItem·put·leaves-out κ a x y e e' p q = p.bytes ∙ sym q.bytes

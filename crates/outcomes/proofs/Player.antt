@@ -3,16 +3,9 @@ use mathlib.Core.Path.{sym, ◌∙◌}
 use mathlib.Core.List.{List}
 use Prim.Native.Nat.{ℕ}
 use Rattle.outcomes.specs.Once.{Answers, Leaves}
-use Rattle.player.proofs.host.take.Reads as player·host·take-contract
 use Rattle.player.proofs.chewing.first.Reads as player·chewing·first-contract
 use Rattle.player.proofs.chewing.chew.Reads as player·chewing·chew-contract
 use Rattle.player.proofs.chewing.finish.Reads as player·chewing·finish-contract
-
-pub player·host·take : Answers player·host·take-contract.Post
-player·host·take κ a x y e e' p q = p.0 ∙ sym q.0
-
-pub player·host·take·leaves-output : Leaves {B = List ℕ} (λ κ e. e.1.1.0.now) player·host·take-contract.Post
-player·host·take·leaves-output κ a x y e e' p q = p.1 ∙ sym q.1
 
 pub player·chewing·first : Answers player·chewing·first-contract.Post
 player·chewing·first κ a x y e e' p q = p ∙ sym q

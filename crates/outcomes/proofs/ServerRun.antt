@@ -5,8 +5,6 @@ use Rattle.server_run.proofs.first.fresh_record.Reads as server-run·first·fres
 use Rattle.server_run.proofs.first.no_counters.Reads as server-run·first·no-counters-contract
 use Rattle.server_run.proofs.gather.named.Reads as server-run·gather·named-contract
 use Rattle.server_run.proofs.gather.set_without.Reads as server-run·gather·set-without-contract
-use Rattle.server_run.proofs.running.allowed.Reads as server-run·running·allowed-contract
-use Rattle.server_run.proofs.running.refusal_of.Reads as server-run·running·refusal-of-contract
 
 pub server-run·first·fresh-record : Answers server-run·first·fresh-record-contract.Post
 server-run·first·fresh-record κ a x y e e' p q = p ∙ sym q
@@ -19,9 +17,3 @@ server-run·gather·named κ a x y e e' p q = p ∙ sym q
 
 pub server-run·gather·set-without : Answers server-run·gather·set-without-contract.Post
 server-run·gather·set-without κ a x y e e' p q = p ∙ sym q
-
-pub server-run·running·allowed : Answers server-run·running·allowed-contract.Post
-server-run·running·allowed κ a x y e e' p q = p ∙ sym q
-
-pub server-run·running·refusal-of : Answers server-run·running·refusal-of-contract.Post
-server-run·running·refusal-of κ a x y e e' p q = p ∙ sym q

@@ -5,8 +5,6 @@ use Prim.Native.Nat.{ℕ}
 use Rattle.outcomes.specs.Once.{Answers, Leaves}
 use Rattle.xdr.proofs.put_u32.Reads as xdr·put-u32-contract
 use Rattle.xdr.proofs.put_u64.Reads as xdr·put-u64-contract
-use Rattle.xdr.proofs.of_i32.Reads as xdr·of-i32-contract
-use Rattle.xdr.proofs.to_i32.Reads as xdr·to-i32-contract
 use Rattle.xdr.proofs.put_i32.Reads as xdr·put-i32-contract
 use Rattle.xdr.proofs.put_bool.Reads as xdr·put-bool-contract
 use Rattle.xdr.proofs.word_at.Reads as xdr·word-at-contract
@@ -18,23 +16,29 @@ use Rattle.xdr.proofs.get_i32.Reads as xdr·get-i32-contract
 use Rattle.xdr.proofs.get_bool.Reads as xdr·get-bool-contract
 use Rattle.xdr.proofs.get_count.Reads as xdr·get-count-contract
 
-pub xdr·put-u32 : Leaves {B = List ℕ} (λ κ e. e.0.now) xdr·put-u32-contract.Post
-xdr·put-u32 κ a x y e e' p q = p ∙ sym q
+pub xdr·put-u32 : Answers xdr·put-u32-contract.Post
+xdr·put-u32 κ a x y e e' p q = p.next ∙ sym q.next
 
-pub xdr·put-u64 : Leaves {B = List ℕ} (λ κ e. e.0.now) xdr·put-u64-contract.Post
-xdr·put-u64 κ a x y e e' p q = p ∙ sym q
+pub xdr·put-u32·leaves-out : Leaves {B = List ℕ} (λ κ e. e.0.now) xdr·put-u32-contract.Post
+xdr·put-u32·leaves-out κ a x y e e' p q = p.bytes ∙ sym q.bytes
 
-pub xdr·of-i32 : Answers xdr·of-i32-contract.Post
-xdr·of-i32 κ a x y e e' p q = p ∙ sym q
+pub xdr·put-u64 : Answers xdr·put-u64-contract.Post
+xdr·put-u64 κ a x y e e' p q = p.next ∙ sym q.next
 
-pub xdr·to-i32 : Answers xdr·to-i32-contract.Post
-xdr·to-i32 κ a x y e e' p q = p ∙ sym q
+pub xdr·put-u64·leaves-out : Leaves {B = List ℕ} (λ κ e. e.0.now) xdr·put-u64-contract.Post
+xdr·put-u64·leaves-out κ a x y e e' p q = p.bytes ∙ sym q.bytes
 
-pub xdr·put-i32 : Leaves {B = List ℕ} (λ κ e. e.0.now) xdr·put-i32-contract.Post
-xdr·put-i32 κ a x y e e' p q = p ∙ sym q
+pub xdr·put-i32 : Answers xdr·put-i32-contract.Post
+xdr·put-i32 κ a x y e e' p q = p.next ∙ sym q.next
 
-pub xdr·put-bool : Leaves {B = List ℕ} (λ κ e. e.0.now) xdr·put-bool-contract.Post
-xdr·put-bool κ a x y e e' p q = p ∙ sym q
+pub xdr·put-i32·leaves-out : Leaves {B = List ℕ} (λ κ e. e.0.now) xdr·put-i32-contract.Post
+xdr·put-i32·leaves-out κ a x y e e' p q = p.bytes ∙ sym q.bytes
+
+pub xdr·put-bool : Answers xdr·put-bool-contract.Post
+xdr·put-bool κ a x y e e' p q = p.next ∙ sym q.next
+
+pub xdr·put-bool·leaves-out : Leaves {B = List ℕ} (λ κ e. e.0.now) xdr·put-bool-contract.Post
+xdr·put-bool·leaves-out κ a x y e e' p q = p.bytes ∙ sym q.bytes
 
 pub xdr·word-at : Answers xdr·word-at-contract.Post
 xdr·word-at κ a x y e e' p q = p ∙ sym q
