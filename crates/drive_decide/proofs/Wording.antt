@@ -8,7 +8,7 @@ use Rattle.masks.specs.Bits.{union}
 use Rattle.masks.specs.Folds.{all_below, union_of}
 use Rattle.masks.proofs.Turns.{all-step}
 use Rattle.masks.proofs.FoldLaws.{all_both}
-use Rattle.masks.proofs.Bools.{true_and_false}
+use Rattle.masks.proofs.Bools.{true_and_false, not_not}
 use Rattle.rules.specs.Cluster.{server_of}
 use Rattle.rules.specs.Flags.{there, implies}
 use Rattle.drive.specs.declared.Answer.{Answer}
@@ -28,9 +28,10 @@ silent_if false false true e f g u v w h = absurd (true_and_false h refl)
 silent_if false true z e f g u v w h = absurd (true_and_false h refl)
 silent_if true y z e f g u v w h = absurd (true_and_false h refl)
 
-pub silent : (a b c : Answer) → (not (there a.counted) && not (there b.counted) && not (there c.counted)) ≡ true → ◌≡◌ {A = InShard} (record { union = 0; equal = true }) (in_shard a b c)
+pub silent : (a b c : Answer) → (eqb a.counted 0 && eqb b.counted 0 && eqb c.counted 0) ≡ true → ◌≡◌ {A = InShard} (record { union = 0; equal = true }) (in_shard a b c)
 silent a b c e =
-    silent_if (there a.counted) (there b.counted) (there c.counted) (there a.arrival.some) (there b.arrival.some) (there c.arrival.some) a.arrival.word b.arrival.word c.arrival.word e
+    silent_if (there a.counted) (there b.counted) (there c.counted) (there a.arrival.some) (there b.arrival.some) (there c.arrival.some) a.arrival.word b.arrival.word c.arrival.word
+    (rw (not_not (eqb a.counted 0), not_not (eqb b.counted 0), not_not (eqb c.counted 0)) e)
 
 -- three turns at a time
 three : (f : ℕ → Bool) (n : ℕ) → all_below f (n + 1 + 1 + 1) ≡ (all_below f n && (f n && f (n + 1) && f (n + 1 + 1)))

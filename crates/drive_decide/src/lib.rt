@@ -64,6 +64,7 @@ pub struct InShards {
 }
 
 // Phase 0: the accepted set of the highest ballot where one is held, else the equal words, go to phase 2; else phase 1.
+#[tactic(auto, unfolding(crate::specs::Turns::turn0))]
 pub fn decide0(vote: Option<Set>, words: InShards) -> Turn
     ensures { result ≡ turn0 vote words.equal words.union }
 {
@@ -80,6 +81,7 @@ pub fn decide0(vote: Option<Set>, words: InShards) -> Turn
 }
 
 // Phase 1: the union goes to phase 3 at the first ballot with all answered and equal words, else to phase 2.
+#[tactic(auto, unfolding(crate::specs::Turns::turn1))]
 pub fn decide1(first: bool, all: bool, words: InShards) -> Turn
     ensures { result ≡ turn1 first all words.equal words.union }
 {
@@ -92,6 +94,7 @@ pub fn decide1(first: bool, all: bool, words: InShards) -> Turn
 }
 
 // What the drive decides, where `all` says that all servers answered.
+#[tactic(auto, unfolding(crate::specs::Turns::turn_of))]
 pub fn decide(d: &Drive, all: bool) -> Turn
     requires { all ≡ all_answered d.now }
     ensures { result ≡ turn_of d.now }

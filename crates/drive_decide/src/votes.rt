@@ -8,6 +8,7 @@ use drive_form::answers::has_accepted;
 use rules::Set;
 
 // Of the server `best` so far and the server `s`: who holds the higher accepted ballot; of equals `best`.
+#[tactic(auto, unfolding(drive::specs::Decide::better))]
 fn better(d: &Drive, s: usize, best: Option<usize>) -> Option<usize>
     requires in_range { s < 12 }
     requires best_in_range { IfSome best (λ b. b < 12) }

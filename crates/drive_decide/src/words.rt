@@ -12,22 +12,21 @@ use rules::Set;
 fn said(a: &Answer) -> bool
     ensures { result ≡ said a.now }
 {
-    !(a.counted != 0) | has_word(a)
+    (a.counted == 0) | has_word(a)
 }
 
 // Two words are equal, if both are counted.
 fn agree(a: &Answer, b: &Answer) -> bool
     ensures { result ≡ same a.now b.now }
 {
-    !((a.counted != 0) & (b.counted != 0)) | (a.arrival.word == b.arrival.word)
+    (a.counted == 0) | (b.counted == 0) | (a.arrival.word == b.arrival.word)
 }
 
 // What the three answers of a shard say. Where none is counted it is nothing.
 pub fn in_shard(a: &Answer, b: &Answer, c: &Answer) -> InShard
     ensures { result ≡ in_shard a.now b.now c.now }
 {
-    let silent = !(a.counted != 0) & !(b.counted != 0) & !(c.counted != 0);
-    if silent {
+    if (a.counted == 0) & (b.counted == 0) & (c.counted == 0) {
         return InShard {
             union: 0,
             equal: true,

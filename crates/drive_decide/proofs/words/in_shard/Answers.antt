@@ -3,8 +3,8 @@ use Rattle.masks.specs.Bits.{union}
 use Rattle.drive_decide.proofs.Wording.{silent}
 use Rattle.drive_decide.proofs.words.in_shard.Goals as goal
 
-pub returns-then-silent : goal.returns-then-silent
-returns-then-silent c = silent c.args.a.now c.args.b.now c.args.c.now c.if-silent.true
+pub returns-then-a-b : goal.returns-then-a-b
+returns-then-a-b c = silent c.args.a.now c.args.b.now c.args.c.now c.if-a-b.true
 
 pub returns : goal.returns
 unfolding union
