@@ -15,7 +15,7 @@ use wire::Message;
 fn not_taken(m: &Message) -> bool
     ensures { result ≡ not_taken m.now }
 {
-    !server_takes(m.code) | faults::over_count(*m)
+    !server_takes(m.code) | faults::over_count(m)
 }
 
 // A PreAccept, Accept or Prepare, where T does not touch this server's shard.
@@ -48,14 +48,14 @@ pub fn refuse(k: u32, v: &Record, m: &Message) -> Result<(), Refusal>
     if not_taken(m) {
         return Err(Refusal::Unknown);
     }
-    if faults::bad_numbers(*m) {
+    if faults::bad_numbers(m) {
         return Err(Refusal::OutOfRange);
     }
-    if faults::bad_pieces(*m) {
+    if faults::bad_pieces(m) {
         return Err(Refusal::BadPieces);
     }
     let touched = shards_of(m.pieces);
-    if faults::bad_sets(touched, *m) {
+    if faults::bad_sets(touched, m) {
         return Err(Refusal::BadSet);
     }
     if untouched(k, touched, m) {
