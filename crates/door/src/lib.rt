@@ -1,11 +1,13 @@
 // The door of the library: what a host is told of the states and bytes that it lends. `station` lends them.
 #![tactic(auto)]
 
-use server::Record;
+ghost use Rattle.std.specs.Prelude.{◌≡◌};
+ghost use Rattle.door.specs.Told.{answered, counted_as};
+
+use rules::refusals::Refusal;
 
 pub mod exchange; // exchange.rt: bytes in, bytes out
 pub mod readings; // readings.rt: what a server holds, a part at a time
-pub mod told; // told.rt: what an outcome tells, and what it leaves
 
 // What a call that writes a message tells: the refusal or 0, and how many bytes it wrote, 0 on a refusal.
 #[repr(C)]
@@ -15,12 +17,18 @@ pub struct Answer {
     pub length: u32,
 }
 
-// What a message leaves at a server: the answer, and the one record to store where that refuses nothing, with its place.
-#[derive(Clone, Copy)]
-pub struct Taken {
-    pub answer: Answer,
-    pub place: usize,
-    pub after: Record,
+impl From<Result<u32, Refusal>> for Answer {
+    ghost from_gives = { λ written a. a ≡ answered written };
+
+    fn from(written: Result<u32, Refusal>) -> Answer {
+        match written {
+            Ok(length) => Answer { refusal: 0, length },
+            Err(refusal) => Answer {
+                refusal: refusal.number(),
+                length: 0,
+            },
+        }
+    }
 }
 
 // The message due to a drive's servers: the refusal or 0, how many bytes it has, and the servers, bit s for the server s. All but the refusal is 0 on a refusal.
@@ -38,6 +46,20 @@ pub struct Due {
 pub struct Counted {
     pub refusal: u32,
     pub many: u32,
+}
+
+impl From<Result<u32, Refusal>> for Counted {
+    ghost from_gives = { λ ran c. c ≡ counted_as ran };
+
+    fn from(ran: Result<u32, Refusal>) -> Counted {
+        match ran {
+            Ok(many) => Counted { refusal: 0, many },
+            Err(refusal) => Counted {
+                refusal: refusal.number(),
+                many: 0,
+            },
+        }
+    }
 }
 
 // A counter, or a result and whether it was kept. None where `some` is 0, and the rest is then 0.

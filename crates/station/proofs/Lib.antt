@@ -1,2 +1,2 @@
-pub mod CommitTaken
+pub mod Taken
 pub mod Ends

@@ -8,8 +8,8 @@ use Rattle.door.proofs.readings.counter.Goals as goal
 
 pub returns-then-key-lt-KEYS : goal.returns-then-key-lt-KEYS
 unfolding counter_in
-returns-then-key-lt-KEYS c = rw (lt-ltb _ _ c.if-key-lt-KEYS.true) (ap₂ reading (to_z-of_z {w = w32} (record { sfits = c.struct_told-1.given.0.1 })) c.kept_of-kept.ensures)
+returns-then-key-lt-KEYS c = rw (lt-ltb _ _ c.if-key-lt-KEYS.true) (ap₂ reading (to_z-of_z {w = w32} (record { sfits = c.struct_told-1.given.0.1 })) c.kept_of.ensures)
 
 pub returns : goal.returns
 unfolding counter_in
-returns c = rw (le-ltb _ _ c.if-key-lt-KEYS.false)
+returns c = rw (le-ltb _ _ c.if-key-lt-KEYS.false) c.none.ensures

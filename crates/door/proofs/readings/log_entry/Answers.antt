@@ -5,8 +5,8 @@ use Rattle.masks.proofs.Bools.{and_yes_r}
 use Rattle.door.specs.Readings.{entry_in}
 use Rattle.door.proofs.readings.log_entry.Goals as goal
 
-pub bounds-l-i : goal.bounds-l-i
-bounds-l-i c = let i = c.args.place in ltb-true i 64 (and_yes_r (ltb i c.args.log.count) (ltb i 64) c.if-there.true)
+pub bounds-log-place : goal.bounds-log-place
+bounds-log-place c = let i = c.args.place in ltb-true i 64 (and_yes_r (ltb i c.args.log.now.count) (ltb i 64) c.if-there.true)
 
 pub returns-then-there : goal.returns-then-there
 unfolding entry_in

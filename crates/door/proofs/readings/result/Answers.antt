@@ -7,6 +7,6 @@ pub returns-then-t-lt-NUMBERS : goal.returns-then-t-lt-NUMBERS
 unfolding result_at
 returns-then-t-lt-NUMBERS c = rw (lt-ltb _ _ c.if-t-lt-NUMBERS.true) c.result_in.ensures
 
-pub returns : goal.returns
+pub returns-else-t-lt-NUMBERS : goal.returns-else-t-lt-NUMBERS
 unfolding result_at
-returns c = rw (le-ltb _ _ c.if-t-lt-NUMBERS.false)
+returns-else-t-lt-NUMBERS c = rw (le-ltb _ _ c.if-t-lt-NUMBERS.false) c.none.ensures

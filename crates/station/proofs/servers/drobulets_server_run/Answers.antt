@@ -4,4 +4,4 @@ use Rattle.station.proofs.Ends.{server-run-told, server-run-left}
 use Rattle.station.proofs.servers.drobulets_server_run.Goals as goal
 
 pub returns : goal.returns
-returns c = (c.runs.ensures.0 ∙ server-run-told c.args.s.now, c.runs.ensures.1 ∙ server-run-left c.args.s.now)
+returns c = (c.from.ensures ∙ c.runs.ensures.count ∙ server-run-told c.args.s.now, c.runs.ensures.server ∙ server-run-left c.args.s.now)

@@ -1,53 +1,30 @@
--- `drobulets_server_take` meets its contract: a Commit runs what is ready; every other message stores the one record.
-use Rattle.std.proofs.Common.{◌<◌, ◌∙◌, sym, subst, arith}
+-- `drobulets_server_take` meets its contract: by whether the bytes decode.
+use Rattle.std.proofs.Common.{◌≡◌, ◌∙◌, sym, ap, true, false, arith}
+use borrow.Author.Tests.{eq-eqb, ne_eqb}
+use Rattle.rules.specs.Flags.{there}
 use Rattle.wire.specs.Bytes.{decode}
-use Rattle.server_read.proofs.Sizes.{Told}
-use Rattle.station.proofs.CommitTaken.{TypedDecoded}
-use Rattle.station.proofs.Ends.{server-take-told-runs, server-take-left-runs, server-take-written-runs, server-take-told, server-take-left-taken-refused, server-take-written, server-take-taken-place-below, server-take-left}
+use Rattle.wire.specs.declared.Decoded.{Decoded}
+use Rattle.door.specs.Exchange.{Exchange}
+use Rattle.door.proofs.Answered.{take-undecoded, take-decoded}
 use Rattle.station.proofs.servers.drobulets_server_take.Goals as goal
 
-pub returns-then-runs : goal.returns-then-runs
-returns-then-runs c =
-    let s = c.args.s.now in
-    let i = c.args.input.now in
-    let z = c.args.output.now in
-    let told : Told s = c.way_told-1.given in
-    let words : TypedDecoded c.decode-d.result = record { w0 = omega arith; w1 = omega arith; w2 = omega arith; w3 = omega arith } in
-    let typed : TypedDecoded (decode i) = subst TypedDecoded c.decode-d.ensures words in
-    let goes = rw (c.heard-h.ensures, c.form_in-f.ensures, c.head-f0.ensures, c.decode-d.ensures) at (sym c.runs-runs.ensures ∙ c.if-runs.true) in (
-      rw (c.commit-answer.ensures.0, c.heard-h.ensures, c.form_in-f.ensures, c.head-f0.ensures, c.decode-d.ensures) (server-take-told-runs s i z told typed goes),
-      rw (c.commit-answer.ensures.1, c.heard-h.ensures, c.form_in-f.ensures, c.head-f0.ensures, c.decode-d.ensures) (server-take-left-runs s i z told typed goes),
-      rw (c.commit-answer.ensures.2, c.heard-h.ensures, c.form_in-f.ensures, c.head-f0.ensures, c.decode-d.ensures) (server-take-written-runs s i z told typed goes),
-    )
-
-pub returns-then-refused : goal.returns-then-refused
-returns-then-refused c =
-    let s = c.args.s.now in
-    let i = c.args.input.now in
-    let z = c.args.output.now in
-    let goes = rw (c.heard-h.ensures, c.form_in-f.ensures, c.head-f0.ensures, c.decode-d.ensures) at (sym c.runs-runs.ensures ∙ c.if-runs.false) in
-    let refused = rw (c.answered-o.ensures.0, c.heard-h.ensures, c.form_in-f.ensures, c.head-f0.ensures, c.decode-d.ensures) at (sym c.taken_refused-refused.ensures ∙ c.if-refused.true) in (
-      rw (c.taken_answer-answer.ensures, c.answered-o.ensures.0, c.heard-h.ensures, c.form_in-f.ensures, c.head-f0.ensures, c.decode-d.ensures) (server-take-told s i z goes),
-      server-take-left-taken-refused s i z goes refused,
-      rw (c.answered-o.ensures.1, c.heard-h.ensures, c.form_in-f.ensures, c.head-f0.ensures, c.decode-d.ensures) (server-take-written s i z goes),
-    )
-
-pub offset_bounds-s-i : goal.offset_bounds-s-i
-offset_bounds-s-i c =
-    let h : c.taken_place-i.result < 64 = rw (c.taken_place-i.ensures, c.answered-o.ensures.0, c.heard-h.ensures, c.form_in-f.ensures, c.head-f0.ensures, c.decode-d.ensures) (server-take-taken-place-below c.args.s.now c.args.input.now c.args.output.now) in
-    record { fits = omega arith }
-
-pub bounds-s-i : goal.bounds-s-i
-bounds-s-i c = rw (c.taken_place-i.ensures, c.answered-o.ensures.0, c.heard-h.ensures, c.form_in-f.ensures, c.head-f0.ensures, c.decode-d.ensures) (server-take-taken-place-below c.args.s.now c.args.input.now c.args.output.now)
+pub returns-then-d-ne0 : goal.returns-then-d-ne0
+returns-then-d-ne0 c =
+    let e = ap (λ (d : Decoded). d.refusal) c.decode-d.ensures in
+    let h : there (decode c.args.input.now).refusal ≡ true = rw (← e, ne_eqb _ 0 c.if-d-ne0.true) in
+    let all = sym (take-undecoded c.args.s.now c.args.input.now c.args.output.now h) in
+    (rw e (ap (λ (x : Exchange). x.answer) all), ap (λ (x : Exchange). x.server) all, ap (λ (x : Exchange). x.output) all)
 
 pub returns : goal.returns
 returns c =
-    let s = c.args.s.now in
-    let i = c.args.input.now in
-    let z = c.args.output.now in
-    let goes = rw (c.heard-h.ensures, c.form_in-f.ensures, c.head-f0.ensures, c.decode-d.ensures) at (sym c.runs-runs.ensures ∙ c.if-runs.false) in
-    let refused = rw (c.answered-o.ensures.0, c.heard-h.ensures, c.form_in-f.ensures, c.head-f0.ensures, c.decode-d.ensures) at (sym c.taken_refused-refused.ensures ∙ c.if-refused.false) in (
-      rw (c.taken_answer-answer.ensures, c.answered-o.ensures.0, c.heard-h.ensures, c.form_in-f.ensures, c.head-f0.ensures, c.decode-d.ensures) (server-take-told s i z goes),
-      rw (c.taken_record-v.ensures, c.taken_place-i.ensures, c.answered-o.ensures.0, c.heard-h.ensures, c.form_in-f.ensures, c.head-f0.ensures, c.decode-d.ensures) (server-take-left s i z goes refused),
-      rw (c.answered-o.ensures.1, c.heard-h.ensures, c.form_in-f.ensures, c.head-f0.ensures, c.decode-d.ensures) (server-take-written s i z goes),
+    let e = ap (λ (d : Decoded). d.refusal) c.decode-d.ensures in
+    let h : there (decode c.args.input.now).refusal ≡ false = rw (← e, eq-eqb _ 0 c.if-d-ne0.false) in
+    let all = sym (take-decoded c.args.s.now c.args.input.now c.args.output.now h) in (
+      c.from.ensures ∙ rw (c.take.ensures.answer, c.decode-d.ensures) (ap (λ (x : Exchange). x.answer) all),
+      rw (c.take.ensures.server, c.decode-d.ensures) (ap (λ (x : Exchange). x.server) all),
+      rw (c.take.ensures.output, c.decode-d.ensures) (ap (λ (x : Exchange). x.output) all),
     )
+
+-- the set of a decoded message has words
+pub take-requires : goal.take-requires
+take-requires c = record { w0 = omega arith; w1 = omega arith; w2 = omega arith; w3 = omega arith }
