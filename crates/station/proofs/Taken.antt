@@ -4,7 +4,7 @@ use mathlib.Core.Path.{◌≡◌, refl, sym, ap, ◌∙◌, subst}
 use mathlib.Core.List.{List}
 use mathlib.Core.Bool.{Bool, true, false}
 use lib.Dec.{eqb}
-use borrow.Author.Tests.{eqb-true}
+use borrow.Author.Tests.{eqb-true, lt-ltb}
 use Rattle.masks.proofs.Bools.{not_yes}
 use Rattle.rules.specs.Flags.{there}
 use Rattle.rules.specs.declared.refusals.Refusal.{Refusal}
@@ -38,7 +38,7 @@ use Rattle.server_lent.specs.Listed.{ran_planned}
 use Rattle.server_lent.proofs.CommitInPlace.{commit-many, commit-server}
 use Rattle.door.specs.Exchange.{nothing_taken, ends, taking}
 use Rattle.door.proofs.Answered.{number-there}
-use Rattle.station.specs.Commits.{plan_for, committed}
+use Rattle.station.specs.Commits.{place_in, plan_for, committed_at, committed}
 
 -- ---- a decoded message
 
@@ -83,7 +83,7 @@ module _ (s : Server) (m : Message) (z : List ℕ) where
       Z = put_record s m.t o.after
 
       abbrev p : PlanTold
-      p = plan_for s (form_read s) comes
+      p = plan_for s (form_read s) comes m.t
 
       many-so : p.many ≡ (run_all Z).many
       many-so = commit-many s m (records-long s was) (counters-long s was) (log-long s was) (words_small s was) typed e k
@@ -98,7 +98,7 @@ module _ (s : Server) (m : Message) (z : List ℕ) where
       serve-so : serve s m ≡ record { refusal = 0; reply = commit_ok m.t s.id (run_all Z).many; server = (run_all Z).server }
       serve-so = step-runs s m e (sym (commit-codes m.code) ∙ k)
 
-      commit-so : committed s (form_read s) comes z ≡ taking s m z
+      commit-so : committed_at s (form_read s) comes m.t z ≡ taking s m z
       unfolding taking
       commit-so =
           ap (λ (r : Message). ends s z (encode (commit_ok r.t r.server p.many) z) (ran_planned p.plan p.log p.many Z)) reply-so
@@ -131,8 +131,15 @@ module _ (s : Server) (m : Message) (z : List ℕ) where
       pub place-below : c.place < 64
       place-below = subst (λ (x : Considered). x.place < 64) (sym is-comes) (number_below m (passed s m free).numbers)
 
+      place-is : place_in c ≡ c.place
+      unfolding place_in
+      place-is = rw (lt-ltb c.place 64 place-below)
+
       pub stored-all : commits m.code ≡ false → ends s z (encode c.reply z) (put_record s c.place c.after) ≡ taking s m z
       stored-all k = ap (λ (x : Considered). ends s z (encode x.reply z) (put_record s x.place x.after)) is-comes ∙ stored-so free k
 
       pub commit-all : Told s → SetFits m.set → commits m.code ≡ true → committed s (kept f) c z ≡ taking s m z
-      commit-all was typed k = (λ j. committed s (kept-so j) (is-comes j) z) ∙ commit-so free was typed k
+      commit-all was typed k =
+          ap (λ (i : ℕ). committed_at s (kept f) c i z) place-is
+          ∙ (λ j. committed_at s (kept-so j) (is-comes j) (is-comes j).place z)
+          ∙ commit-so free was typed k

@@ -1,5 +1,6 @@
 -- A Commit that nothing refuses, as it is computed on a lent server: what runs is known before anything is stored; then the reply with its count is written; and where that fits, the record is stored and the plan runs.
-use Rattle.std.specs.Prelude.{ℕ, List}
+use Rattle.std.specs.Prelude.{ℕ, List, ltb}
+use Rattle.rules.specs.Choice.{◌if◌else◌}
 use Rattle.wire.specs.Encoding.{encode}
 use Rattle.wire.specs.Messages.{commit_ok}
 use Rattle.server.specs.declared.Server.{Server}
@@ -10,13 +11,20 @@ use Rattle.server_plan.specs.Planning.{PlanTold, unrun_of, waiting_turn, waiting
 use Rattle.server_lent.specs.Listed.{ran_planned}
 use Rattle.door.specs.Exchange.{Exchange, ends}
 
--- what each number waits for once the record is stored, and what then runs
-abbrev pub plan_for : Server → FormRead → Considered → PlanTold
-plan_for s f h =
+-- the place of the record that a Commit stores, or any where there is no such place
+unfoldable pub place_in : Considered → ℕ
+place_in h = h.place if ltb h.place 64 else 0
+
+-- what each number waits for once the record is stored at a place, and what then runs
+abbrev pub plan_for : Server → FormRead → Considered → (place : ℕ) → PlanTold
+plan_for s f h i =
     let c = h.after.committed in
-    planned_after f (waiting_turn f.word (waiting_in s f.word 64) h.place c) h.place (unrun_of f.word c) s.log
+    planned_after f (waiting_turn f.word (waiting_in s f.word 64) i c) i (unrun_of f.word c) s.log
+
+abbrev pub committed_at : Server → FormRead → Considered → (place : ℕ) → (output : List ℕ) → Exchange
+committed_at s f h i z =
+    let p = plan_for s f h i in
+    ends s z (encode (commit_ok h.reply.t h.reply.server p.many) z) (ran_planned p.plan p.log p.many (put_record s i h.after))
 
 abbrev pub committed : Server → FormRead → Considered → (output : List ℕ) → Exchange
-committed s f h z =
-    let p = plan_for s f h in
-    ends s z (encode (commit_ok h.reply.t h.reply.server p.many) z) (ran_planned p.plan p.log p.many (put_record s h.place h.after))
+committed s f h z = committed_at s f h (place_in h) z

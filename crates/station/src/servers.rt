@@ -8,7 +8,7 @@ ghost use Rattle.server_run.specs.Limited.{ran_up_to};
 ghost use Rattle.server_read.specs.InPlace.{kept};
 ghost use Rattle.door.specs.Told.{answered, counted, counted_as};
 ghost use Rattle.door.specs.Readings.{counter, log_entry, result_reading};
-ghost use Rattle.station.specs.Commits.{committed};
+ghost use Rattle.station.specs.Commits.{place_in, committed};
 
 use door::exchange::write;
 use door::{Answer, Counted, LogEntry, Reading};
@@ -31,19 +31,28 @@ pub fn drobulets_server_fresh(s: &mut Server, id: u32) -> u32
     told(server_lent::first::fresh(s, id))
 }
 
+// The place of the record that a Commit stores, or any where there is no such place.
+#[tactic(auto, unfolding(crate::specs::Commits::place_in))]
+fn place_in(c: &Considered) -> usize
+    ensures is { result ≡ place_in c.now }
+    ensures below { result < 64 }
+{
+    if c.place < 64 { c.place } else { 0 }
+}
+
 // A Commit that nothing refused, at a server of this form, before anything is stored: `c` is what it comes to. On a refusal of the output nothing is stored and nothing runs.
-fn commit(s: &mut Server, f: Form, c: &Considered, output: &mut [u8]) -> Result<u32, Refusal>
-    requires { c.now.place < 64 }
+pub fn commit(s: &mut Server, f: Form, c: &Considered, output: &mut [u8]) -> Result<u32, Refusal>
     ensures answer { answered result ≡ (committed s.old (kept f) c.now output.old).answer }
     ensures server { s.new ≡ (committed s.old (kept f) c.now output.old).server }
     ensures output { output.new ≡ (committed s.old (kept f) c.now output.old).output }
 {
+    let at = place_in(c);
     let mut d = waiting_in(&*s, f.word);
-    d.note(f.word, c.place, &c.after.committed);
+    d.note(f.word, at, &c.after.committed);
     let u = unrun_of(&c.after.committed, f.word);
-    let p = plan_after(f, &d, c.place, u, &s.log);
+    let p = plan_after(f, &d, at, u, &s.log);
     let length = write(&commit_ok(c.reply.t, c.reply.server, p.many), output)?;
-    s.records[c.place] = c.after;
+    s.records[at] = c.after;
     run_planned(&mut *s, &p);
     Ok(length)
 }

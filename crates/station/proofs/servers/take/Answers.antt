@@ -44,10 +44,6 @@ returns-in_err-c-clause-output c =
     sym (ap (λ (x : Exchange). x.output) (step-refused s m z c.in_ok-f.f c.in_ok-f.ensures.0 c.in_ok-f.ensures.1 c.in_err-c.field-0.0 c.in_err-c.ensures.refusal))
 
 -- a Commit
-pub commit-requires : goal.commit-requires
-commit-requires c =
-    place-below c.args.s.now c.args.m.now c.args.output.now c.in_ok-f.f c.in_ok-f.ensures.0 c.in_ok-f.ensures.1 c.in_ok-c.ensures.refusal c.in_ok-c.c c.in_ok-c.ensures.taken
-
 pub returns-then-commits-clause-answer : goal.returns-then-commits-clause-answer
 returns-then-commits-clause-answer c =
     let s = c.args.s.now in
