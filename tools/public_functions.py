@@ -94,7 +94,7 @@ def signatures(text):
         yield m.group(1), ensures
 
 
-def functions_of(text, prefix, traits, inherited=None):
+def functions_of(text, prefix, homes, traits, inherited=None):
     """Each public function of one module's text: path, parameters, type of the answer, ensures clauses, exported or not, body, bound."""
     at = 0
     pattern = re.compile(r'\bimpl\s+(?:(\w+)\s+for\s+)?(\w+|\([\w, ]*\))\s*\{|\bpub\s+trait\s+\w+[^{]*\{|\bpub\s+(extern "C"\s+)?fn\s+(\w+)(?:<\w+: (\w+)>)?|\bfn\s+(\w+)')
@@ -105,9 +105,9 @@ def functions_of(text, prefix, traits, inherited=None):
         if m.group().startswith(('impl', 'pub trait')) or m.group().split()[:2] == ['pub', 'trait']:
             body, at = block(text, m.end() - 1)
             if m.group(2) and m.group(1) in traits:
-                yield from functions_of(body, prefix + [type_name(m.group(2)) + m.group(1)], traits, traits[m.group(1)])
+                yield from functions_of(body, prefix + [type_name(m.group(2)) + m.group(1)], homes, traits, traits[m.group(1)])
             elif m.group(2) and not m.group(1):
-                yield from functions_of(body, prefix + [m.group(2)], traits)
+                yield from functions_of(body, homes.get(m.group(2), prefix) + [m.group(2)], homes, traits)
             continue
         params, at = parameters(text, m.end())
         arrow = re.match(r'\s*->\s*([^\s{]+)', text[at:])
@@ -145,10 +145,13 @@ def public_functions(root='.', roots=('lib',)):
     for lib in sorted(p for name in roots for p in crates.glob(f'*/src/{name}.rt')):
         crate = lib.parent.parent.name
         text = without_comments(lib.read_text(encoding='utf-8'))
-        for prefix, body in modules(lib.parent, text, []):
+        below = list(modules(lib.parent, text, []))
+        # where each type is declared, which is where the prover has the functions of its `impl`
+        homes = {name: prefix for prefix, body in below for name in re.findall(r'\bpub (?:struct|enum) (\w+)', body)}
+        for prefix, body in below:
             uses = re.findall(r'ghost use ([^;]+);', body)
             imports = {name.strip(): owner for owner, names in re.findall(r'(?m)^use (\w+)::(?:\w+::)*(\w+|\{[^}]*\});', body) for name in names.strip('{}').split(',')}
-            for found_one in functions_of(body, prefix, traits):
+            for found_one in functions_of(body, prefix, homes, traits):
                 found.append(Function(crate, *found_one, uses, imports))
     return found
 

@@ -19,4 +19,4 @@ pub server-form·log·read-log : Answers server-form·log·read-log-contract.Pos
 server-form·log·read-log κ a x y e e' p q = option-one x y (λ w fine is broken. true≢false (sym fine ∙ broken)) p q
 
 pub server-read·form·read-form : Answers server-read·form·read-form-contract.Post
-server-read·form·read-form κ a x y e e' p q = result-one x y (λ fine broken. true≢false (sym fine ∙ broken)) p q
+server-read·form·read-form κ a x y e e' p q = result-one _ _ x y (λ fine broken. true≢false (sym fine ∙ broken)) p q

@@ -16,9 +16,9 @@ use Rattle.drive_form.proofs.answers.addressed.Reads as drive-form·answers·add
 use Rattle.drive_form.proofs.answers.word_of.Reads as drive-form·answers·word-of-contract
 use Rattle.drive_form.proofs.answers.accepted_formed.Reads as drive-form·answers·accepted-formed-contract
 use Rattle.drive_form.proofs.counts.servers_of.Reads as drive-form·counts·servers-of-contract
-use Rattle.drive_form.proofs.counts.Counted.all_answered.Reads as drive-form·counts·Counted·all-answered-contract
-use Rattle.drive_form.proofs.counts.Counted.two_in_each.Reads as drive-form·counts·Counted·two-in-each-contract
-use Rattle.drive_form.proofs.counts.Counted.decided.Reads as drive-form·counts·Counted·decided-contract
+use Rattle.drive_form.proofs.Counted.all_answered.Reads as drive-form·Counted·all-answered-contract
+use Rattle.drive_form.proofs.Counted.two_in_each.Reads as drive-form·Counted·two-in-each-contract
+use Rattle.drive_form.proofs.Counted.decided.Reads as drive-form·Counted·decided-contract
 
 pub drive-form·Walked·at-first : Answers drive-form·Walked·at-first-contract.Post
 drive-form·Walked·at-first κ a x y e e' p q = p ∙ sym q
@@ -65,11 +65,11 @@ drive-form·answers·accepted-formed κ a x y e e' p q = p ∙ sym q
 pub drive-form·counts·servers-of : Answers drive-form·counts·servers-of-contract.Post
 drive-form·counts·servers-of κ a x y e e' p q = p ∙ sym q
 
-pub drive-form·counts·Counted·all-answered : Answers drive-form·counts·Counted·all-answered-contract.Post
-drive-form·counts·Counted·all-answered κ a x y e e' p q = p ∙ sym q
+pub drive-form·Counted·all-answered : Answers drive-form·Counted·all-answered-contract.Post
+drive-form·Counted·all-answered κ a x y e e' p q = p ∙ sym q
 
-pub drive-form·counts·Counted·two-in-each : Answers drive-form·counts·Counted·two-in-each-contract.Post
-drive-form·counts·Counted·two-in-each κ a x y e e' p q = p ∙ sym q
+pub drive-form·Counted·two-in-each : Answers drive-form·Counted·two-in-each-contract.Post
+drive-form·Counted·two-in-each κ a x y e e' p q = p ∙ sym q
 
-pub drive-form·counts·Counted·decided : Answers drive-form·counts·Counted·decided-contract.Post
-drive-form·counts·Counted·decided κ a x y e e' p q = p ∙ sym q
+pub drive-form·Counted·decided : Answers drive-form·Counted·decided-contract.Post
+drive-form·Counted·decided κ a x y e e' p q = p ∙ sym q

@@ -13,6 +13,7 @@ use Rattle.rules.specs.Ballots.{as_next}
 use Rattle.encoding.specs.Answers.{told_of}
 use Rattle.drive_host.specs.declared.sending.Letter.{Letter}
 use Rattle.drive_host.specs.Sent.{sent}
+use Rattle.door.specs.Told.{answered, counted_as}
 
 unfoldable of_number : ℕ → Refusal
 of_number n =
@@ -99,17 +100,29 @@ sent-one (Err r) (Err s) e = ap Err (number-one r s (λ i. (e i).refusal))
 sent-one (Ok m) (Err s) e = absurd (number-some s (λ i. (sym e i).refusal))
 sent-one (Err r) (Ok n) e = absurd (number-some r (λ i. (e i).refusal))
 
+pub answered-one : (x y : Result ℕ Refusal) → answered x ≡ answered y → x ≡ y
+answered-one (Ok m) (Ok n) e = λ i. Ok (e i).length
+answered-one (Err r) (Err s) e = ap Err (number-one r s (λ i. (e i).refusal))
+answered-one (Ok m) (Err s) e = absurd (number-some s (λ i. (sym e i).refusal))
+answered-one (Err r) (Ok n) e = absurd (number-some r (λ i. (e i).refusal))
+
+pub counted_as-one : (x y : Result ℕ Refusal) → counted_as x ≡ counted_as y → x ≡ y
+counted_as-one (Ok m) (Ok n) e = λ i. Ok (e i).many
+counted_as-one (Err r) (Err s) e = ap Err (number-one r s (λ i. (e i).refusal))
+counted_as-one (Ok m) (Err s) e = absurd (number-some s (λ i. (sym e i).refusal))
+counted_as-one (Err r) (Ok n) e = absurd (number-some r (λ i. (e i).refusal))
+
 -- where it is said when nothing is given, and what is given else
 pub option-one : {A : Type 0} {P : Type 0} {Q : A → Type 0} {v : A} (x y : Option A) → ((a : A) → Q a → a ≡ v → P → ⊥)
     → MatchOption x P (λ a. Q a × (a ≡ v)) → MatchOption y P (λ a. Q a × (a ≡ v)) → x ≡ y
-option-one None None no h k = refl
-option-one (Some a) (Some b) no h k = ap Some (h.1 ∙ sym k.1)
-option-one None (Some b) no h k = absurd (no b k.0 k.1 h)
-option-one (Some a) None no h k = absurd (no a h.0 h.1 k)
+option-one None None never h k = refl
+option-one (Some a) (Some b) never h k = ap Some (h.1 ∙ sym k.1)
+option-one None (Some b) never h k = absurd (never b k.0 k.1 h)
+option-one (Some a) None never h k = absurd (never a h.0 h.1 k)
 
-pub result-one : {A E : Type 0} {P Q : Type 0} {v : A} {w : E} (x y : Result A E) → (P → Q → ⊥)
+pub result-one : {A E : Type 0} {P Q : Type 0} (v : A) (w : E) (x y : Result A E) → (P → Q → ⊥)
     → MatchResult x (λ a. P × (a ≡ v)) (λ e. Q × (e ≡ w)) → MatchResult y (λ a. P × (a ≡ v)) (λ e. Q × (e ≡ w)) → x ≡ y
-result-one (Ok a) (Ok b) no h k = ap Ok (h.1 ∙ sym k.1)
-result-one (Err a) (Err b) no h k = ap Err (h.1 ∙ sym k.1)
-result-one (Ok a) (Err b) no h k = absurd (no h.0 k.0)
-result-one (Err a) (Ok b) no h k = absurd (no k.0 h.0)
+result-one v w (Ok a) (Ok b) never h k = ap Ok (h.1 ∙ sym k.1)
+result-one v w (Err a) (Err b) never h k = ap Err (h.1 ∙ sym k.1)
+result-one v w (Ok a) (Err b) never h k = absurd (never h.0 k.0)
+result-one v w (Err a) (Ok b) never h k = absurd (never k.0 h.0)
