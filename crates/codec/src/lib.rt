@@ -43,7 +43,8 @@ pub fn encode_lent(message: &Message, out: &mut [u8]) -> Encoded
     Encoded::from(written(message, out))
 }
 
-// By the kind of the message: how many bytes it takes.
+// By the kind of the message: how many bytes it takes. The shortest messages are written in the caller itself.
+#[inline(always)]
 fn written(message: &Message, out: &mut [u8]) -> Result<u32, Refusal>
     ensures { (told_of result ≡ answer (encode message.now out.old)) × (out.new ≡ (encode message.now out.old).buffer) }
 {

@@ -42,7 +42,7 @@ fn put_front(out: &mut [u8], at: usize, h: Shape, m: &Message) -> usize
     requires { at + length ((front h).put ((((m.now.t, m.now.server), m.now.ballot), m.now.promise), m.now.ran)) ≤ length out.old }
     ensures { Put at ((front h).put ((((m.now.t, m.now.server), m.now.ballot), m.now.promise), m.now.ran)) out.old result out.new }
 {
-    let a = xdr::put_u32(out, at, m.t);
+    let a = m.t.put(out, at);
     let b = put_if(out, a, h.server, &m.server);
     let c = put_if(out, b, h.ballot, &m.ballot);
     let d = put_if(out, c, h.promise, &m.promise);
@@ -79,17 +79,19 @@ fn send(out: &mut [u8], built: &[u8], n: usize) -> Result<u32, Refusal>
 }
 
 // A code and T alone.
+#[inline(always)]
 pub fn bare(out: &mut [u8], m: &Message) -> Result<u32, Refusal>
     ensures { (told_of result ≡ answer (sent false (cat (bare_sections m.now.code m.now.t)) out.old))
         × (out.new ≡ (sent false (cat (bare_sections m.now.code m.now.t)) out.old).buffer) }
 {
     let mut buffer = [0u8; 176];
-    let a = xdr::put_u32(&mut buffer, 0, m.code);
-    let n = xdr::put_u32(&mut buffer, a, m.t);
+    let a = m.code.put(&mut buffer, 0);
+    let n = m.t.put(&mut buffer, a);
     send(out, &buffer, n)
 }
 
 // Pieces, and a ballot before them, a set after them or both.
+#[inline(never)]
 pub fn asked(out: &mut [u8], m: &Message) -> Result<u32, Refusal>
     ensures { (told_of result ≡ answer (sent (ltb 8 m.now.pieces.count) (cat (asked_sections (asked_shape m.now.code) m.now.code m.now.t m.now.ballot m.now.pieces.list m.now.pieces.count m.now.set)) out.old))
         × (out.new ≡ (sent (ltb 8 m.now.pieces.count) (cat (asked_sections (asked_shape m.now.code) m.now.code m.now.t m.now.ballot m.now.pieces.list m.now.pieces.count m.now.set)) out.old).buffer) }
@@ -99,7 +101,7 @@ pub fn asked(out: &mut [u8], m: &Message) -> Result<u32, Refusal>
     }
     let h = asked_shape(m.code);
     let mut buffer = [0u8; 176];
-    let a = xdr::put_u32(&mut buffer, 0, m.code);
+    let a = m.code.put(&mut buffer, 0);
     let b = put_front(&mut buffer, a, h, m);
     let c = m.pieces.put(&mut buffer, b);
     let n = put_if(&mut buffer, c, h.set, &m.set);
@@ -107,6 +109,7 @@ pub fn asked(out: &mut [u8], m: &Message) -> Result<u32, Refusal>
 }
 
 // A server, and what it answers.
+#[inline(never)]
 pub fn answered(out: &mut [u8], m: &Message) -> Result<u32, Refusal>
     ensures { (told_of result ≡ answer (sent ((answered_shape m.now.code).values && ltb 8 m.now.values.count) (cat (answered_sections (answered_shape m.now.code) m.now.code m.now.t m.now.server m.now.ballot m.now.promise m.now.ran m.now.word m.now.arrival m.now.accepted m.now.values)) out.old))
         × (out.new ≡ (sent ((answered_shape m.now.code).values && ltb 8 m.now.values.count) (cat (answered_sections (answered_shape m.now.code) m.now.code m.now.t m.now.server m.now.ballot m.now.promise m.now.ran m.now.word m.now.arrival m.now.accepted m.now.values)) out.old).buffer) }
@@ -116,7 +119,7 @@ pub fn answered(out: &mut [u8], m: &Message) -> Result<u32, Refusal>
         return Err(Refusal::Unknown);
     }
     let mut buffer = [0u8; 176];
-    let a = xdr::put_u32(&mut buffer, 0, m.code);
+    let a = m.code.put(&mut buffer, 0);
     let b = put_front(&mut buffer, a, h, m);
     let c = put_if(&mut buffer, b, h.word, &m.word);
     let d = put_if(&mut buffer, c, h.prepared, &(m.arrival, m.accepted));

@@ -33,11 +33,10 @@ impl Item for Piece {
     }
 
     fn put(&self, out: &mut [u8], at: usize) -> usize {
-        let p = *self;
-        let a = xdr::put_u32(out, at, p.shard);
-        let b = xdr::put_u32(out, a, p.key);
-        let c = xdr::put_u32(out, b, p.kind);
-        xdr::put_i32(out, c, p.operand)
+        let a = self.shard.put(out, at);
+        let b = self.key.put(out, a);
+        let c = self.kind.put(out, b);
+        self.operand.put(out, c)
     }
 
     ghost defaults = { Prim.search rules };
@@ -85,9 +84,8 @@ impl Item for Value {
     }
 
     fn put(&self, out: &mut [u8], at: usize) -> usize {
-        let v = *self;
-        let a = xdr::put_i32(out, at, v.value);
-        xdr::put_bool(out, a, v.kept != 0)
+        let a = self.value.put(out, at);
+        (self.kept != 0).put(out, a)
     }
 
     ghost defaults = { Prim.search rules };

@@ -1,7 +1,7 @@
 // An item of a message: how it is read at a cursor and written at a place.
 // After a fault nothing is read and an item is blank, so that the first fault from the front stays.
-ghost use Rattle.std.specs.Prelude.{◌≡◌, ◌+◌, ◌≤◌, length, replicate};
-ghost use Rattle.xdr.specs.Form.{Form, u32, u64, flat, many-get, when, rows};
+ghost use Rattle.std.specs.Prelude.{◌≡◌, false, pos, ◌+◌, ◌≤◌, length, replicate};
+ghost use Rattle.xdr.specs.Form.{Form, u32, u64, int, flag, flat, many-get, when, rows};
 ghost use Rattle.xdr.specs.Over.{Put};
 ghost use Rattle.xdr.specs.Reading.{Reads};
 
@@ -35,7 +35,8 @@ impl Item for u32 {
     }
 
     fn put(&self, out: &mut [u8], at: usize) -> usize {
-        xdr::put_u32(out, at, *self)
+        xdr::put_u32(&mut out[at..], *self);
+        at + 4
     }
 
     ghost defaults = { λ x h. h };
@@ -51,7 +52,43 @@ impl Item for u64 {
     }
 
     fn put(&self, out: &mut [u8], at: usize) -> usize {
-        xdr::put_u64(out, at, *self)
+        xdr::put_u64(&mut out[at..], *self);
+        at + 8
+    }
+
+    ghost defaults = { λ x h. h };
+}
+
+impl Item for i32 {
+    ghost form = { int };
+
+    ghost blank = { pos 0 };
+
+    fn get(s: &[u8], c: Cursor) -> Got<i32> {
+        xdr::get_i32(s, c)
+    }
+
+    fn put(&self, out: &mut [u8], at: usize) -> usize {
+        let v = *self;
+        xdr::put_i32(&mut out[at..], v);
+        at + 4
+    }
+
+    ghost defaults = { λ x h. h };
+}
+
+impl Item for bool {
+    ghost form = { flag };
+
+    ghost blank = { false };
+
+    fn get(s: &[u8], c: Cursor) -> Got<bool> {
+        xdr::get_bool(s, c)
+    }
+
+    fn put(&self, out: &mut [u8], at: usize) -> usize {
+        xdr::put_bool(&mut out[at..], *self);
+        at + 4
     }
 
     ghost defaults = { λ x h. h };
@@ -111,7 +148,7 @@ pub fn put_rows<T: Item>(out: &mut [u8], at: usize, count: u32, list: &[T]) -> u
     ensures { Put at ((rows T.blank T.form).put (count, list.now)) out.old result out.new }
 {
     let n = (count as usize).min(list.len());
-    let entries = xdr::put_u32(out, at, count);
+    let entries = count.put(out, at);
     put_all(out, entries, &list[..n])
 }
 

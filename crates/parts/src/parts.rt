@@ -30,10 +30,10 @@ impl Item for Set {
     }
 
     fn put(&self, out: &mut [u8], at: usize) -> usize {
-        let a = xdr::put_u64(out, at, self.w0);
-        let b = xdr::put_u64(out, a, self.w1);
-        let c = xdr::put_u64(out, b, self.w2);
-        xdr::put_u64(out, c, self.w3)
+        let a = self.w0.put(out, at);
+        let b = self.w1.put(out, a);
+        let c = self.w2.put(out, b);
+        self.w3.put(out, c)
     }
 
     ghost defaults = { Prim.search rules };
@@ -56,7 +56,7 @@ impl Item for MaybeWord {
 
     fn put(&self, out: &mut [u8], at: usize) -> usize {
         let there = self.some != 0;
-        let a = xdr::put_bool(out, at, there);
+        let a = there.put(out, at);
         put_if(out, a, there, &self.word)
     }
 
@@ -82,7 +82,7 @@ impl Item for MaybeVote {
 
     fn put(&self, out: &mut [u8], at: usize) -> usize {
         let there = self.some != 0;
-        let a = xdr::put_bool(out, at, there);
+        let a = there.put(out, at);
         let b = put_if(out, a, there, &self.ballot);
         put_if(out, b, there, &self.set)
     }

@@ -1,15 +1,19 @@
 -- The sections in a row, where the count is no more than eight. Assumes nothing.
-use Rattle.std.proofs.Common.{ap, ◌∙◌, ◌&&◌}
+use Rattle.std.proofs.Common.{arith, ap, ◌∙◌, ◌&&◌}
 use lib.Dec.{ltb, lit<}
 use borrow.Author.Tests.{ltb-false}
 use Rattle.wire.specs.declared.Shape.{Shape}
 use Rattle.wire.specs.Encoding.{Encoding}
 use Rattle.wire.specs.Bytes.{code}
+use Rattle.xdr.specs.Word.{be-length}
 use Rattle.encoding.specs.Answers.{answer, sent}
 use Rattle.encoding.specs.Sections.{cat}
 use Rattle.encoding.proofs.WriteWhole.{cleared, none-put, section-room, section-put, built-fits}
 use Rattle.encoding.proofs.EncodeWhole.{answered_built, answered-room, sent-12, sent-built}
 use Rattle.encoding.proofs.answered.Goals as goal
+
+pub put-a-requires : goal.put-a-requires
+put-a-requires c = omega (arith, be-length 4 c.args.m.now.code)
 
 pub returns-then-h-m : goal.returns-then-h-m
 returns-then-h-m c =
@@ -26,7 +30,7 @@ put_front-b-requires c =
     let few = c.if-h-m.false in
     let ss = answered_built m h in
     let room = answered-room m h (λ g. ltb-false 8 m.values.count (rw g at few)) in
-    let p₁ = section-put ss 0 cleared room 0 (lit< tt) (none-put ss 0 cleared room) c.put_u32-a.ensures in
+    let p₁ = section-put ss 0 cleared room 0 (lit< tt) (none-put ss 0 cleared room) c.put-a.ensures in
     section-room ss 0 cleared room 1 (lit< tt) p₁
 
 pub put_if-c-requires : goal.put_if-c-requires
@@ -37,7 +41,7 @@ put_if-c-requires c =
     let few = c.if-h-m.false in
     let ss = answered_built m h in
     let room = answered-room m h (λ g. ltb-false 8 m.values.count (rw g at few)) in
-    let p₁ = section-put ss 0 cleared room 0 (lit< tt) (none-put ss 0 cleared room) c.put_u32-a.ensures in
+    let p₁ = section-put ss 0 cleared room 0 (lit< tt) (none-put ss 0 cleared room) c.put-a.ensures in
     let p₂ = section-put ss 0 cleared room 1 (lit< tt) p₁ c.put_front-b.ensures in
     section-room ss 0 cleared room 2 (lit< tt) p₂
 
@@ -49,7 +53,7 @@ put_if-d-requires c =
     let few = c.if-h-m.false in
     let ss = answered_built m h in
     let room = answered-room m h (λ g. ltb-false 8 m.values.count (rw g at few)) in
-    let p₁ = section-put ss 0 cleared room 0 (lit< tt) (none-put ss 0 cleared room) c.put_u32-a.ensures in
+    let p₁ = section-put ss 0 cleared room 0 (lit< tt) (none-put ss 0 cleared room) c.put-a.ensures in
     let p₂ = section-put ss 0 cleared room 1 (lit< tt) p₁ c.put_front-b.ensures in
     let p₃ = section-put ss 0 cleared room 2 (lit< tt) p₂ c.put_if-c.ensures in
     section-room ss 0 cleared room 3 (lit< tt) p₃
@@ -62,7 +66,7 @@ put_if-n-requires c =
     let few = c.if-h-m.false in
     let ss = answered_built m h in
     let room = answered-room m h (λ g. ltb-false 8 m.values.count (rw g at few)) in
-    let p₁ = section-put ss 0 cleared room 0 (lit< tt) (none-put ss 0 cleared room) c.put_u32-a.ensures in
+    let p₁ = section-put ss 0 cleared room 0 (lit< tt) (none-put ss 0 cleared room) c.put-a.ensures in
     let p₂ = section-put ss 0 cleared room 1 (lit< tt) p₁ c.put_front-b.ensures in
     let p₃ = section-put ss 0 cleared room 2 (lit< tt) p₂ c.put_if-c.ensures in
     let p₄ = section-put ss 0 cleared room 3 (lit< tt) p₃ c.put_if-d.ensures in
@@ -76,7 +80,7 @@ send-requires c =
     let few = c.if-h-m.false in
     let ss = answered_built m h in
     let room = answered-room m h (λ g. ltb-false 8 m.values.count (rw g at few)) in
-    let p₁ = section-put ss 0 cleared room 0 (lit< tt) (none-put ss 0 cleared room) c.put_u32-a.ensures in
+    let p₁ = section-put ss 0 cleared room 0 (lit< tt) (none-put ss 0 cleared room) c.put-a.ensures in
     let p₂ = section-put ss 0 cleared room 1 (lit< tt) p₁ c.put_front-b.ensures in
     let p₃ = section-put ss 0 cleared room 2 (lit< tt) p₂ c.put_if-c.ensures in
     let p₄ = section-put ss 0 cleared room 3 (lit< tt) p₃ c.put_if-d.ensures in
@@ -91,7 +95,7 @@ returns c =
     let few = c.if-h-m.false in
     let ss = answered_built m h in
     let room = answered-room m h (λ g. ltb-false 8 m.values.count (rw g at few)) in
-    let p₁ = section-put ss 0 cleared room 0 (lit< tt) (none-put ss 0 cleared room) c.put_u32-a.ensures in
+    let p₁ = section-put ss 0 cleared room 0 (lit< tt) (none-put ss 0 cleared room) c.put-a.ensures in
     let p₂ = section-put ss 0 cleared room 1 (lit< tt) p₁ c.put_front-b.ensures in
     let p₃ = section-put ss 0 cleared room 2 (lit< tt) p₂ c.put_if-c.ensures in
     let p₄ = section-put ss 0 cleared room 3 (lit< tt) p₃ c.put_if-d.ensures in

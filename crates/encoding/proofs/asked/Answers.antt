@@ -1,16 +1,20 @@
 -- The sections in a row, where the count is no more than eight. Assumes nothing.
-use Rattle.std.proofs.Common.{ap, ◌∙◌, List, ℕ}
+use Rattle.std.proofs.Common.{arith, ap, ◌∙◌, List, ℕ}
 use lib.Dec.{ltb, lit<}
 use borrow.Author.Tests.{lt-ltb, le-ltb}
 use Rattle.wire.specs.declared.Shape.{Shape}
 use Rattle.wire.specs.Encoding.{Encoding}
 use Rattle.wire.specs.Bytes.{code}
+use Rattle.xdr.specs.Word.{be-length}
 use Rattle.encoding.specs.Answers.{answer, sent}
 use Rattle.encoding.specs.Sections.{cat}
 use Rattle.encoding.specs.ByKind.{asked_shape, asked_sections}
 use Rattle.encoding.proofs.WriteWhole.{cleared, none-put, section-room, section-put, built-fits}
 use Rattle.encoding.proofs.EncodeWhole.{asked_built, asked-room, asked-same, sent-12, sent-built}
 use Rattle.encoding.proofs.asked.Goals as goal
+
+pub put-a-requires : goal.put-a-requires
+put-a-requires c = omega (arith, be-length 4 c.args.m.now.code)
 
 pub returns-then-m-gt8 : goal.returns-then-m-gt8
 returns-then-m-gt8 c =
@@ -25,7 +29,7 @@ put_front-b-requires c =
     let h = c.asked_shape-h.result in
     let ss = asked_built m h in
     let room = asked-room m h c.asked_shape-h.ensures c.if-m-gt8.false in
-    let p₁ = section-put ss 0 cleared room 0 (lit< tt) (none-put ss 0 cleared room) c.put_u32-a.ensures in
+    let p₁ = section-put ss 0 cleared room 0 (lit< tt) (none-put ss 0 cleared room) c.put-a.ensures in
     section-room ss 0 cleared room 1 (lit< tt) p₁
 
 pub put-c-requires : goal.put-c-requires
@@ -35,7 +39,7 @@ put-c-requires c =
     let h = c.asked_shape-h.result in
     let ss = asked_built m h in
     let room = asked-room m h c.asked_shape-h.ensures c.if-m-gt8.false in
-    let p₁ = section-put ss 0 cleared room 0 (lit< tt) (none-put ss 0 cleared room) c.put_u32-a.ensures in
+    let p₁ = section-put ss 0 cleared room 0 (lit< tt) (none-put ss 0 cleared room) c.put-a.ensures in
     let p₂ = section-put ss 0 cleared room 1 (lit< tt) p₁ c.put_front-b.ensures in
     section-room ss 0 cleared room 2 (lit< tt) p₂
 
@@ -46,7 +50,7 @@ put_if-n-requires c =
     let h = c.asked_shape-h.result in
     let ss = asked_built m h in
     let room = asked-room m h c.asked_shape-h.ensures c.if-m-gt8.false in
-    let p₁ = section-put ss 0 cleared room 0 (lit< tt) (none-put ss 0 cleared room) c.put_u32-a.ensures in
+    let p₁ = section-put ss 0 cleared room 0 (lit< tt) (none-put ss 0 cleared room) c.put-a.ensures in
     let p₂ = section-put ss 0 cleared room 1 (lit< tt) p₁ c.put_front-b.ensures in
     let p₃ = section-put ss 0 cleared room 2 (lit< tt) p₂ c.put-c.ensures in
     section-room ss 0 cleared room 3 (lit< tt) p₃
@@ -58,7 +62,7 @@ send-requires c =
     let h = c.asked_shape-h.result in
     let ss = asked_built m h in
     let room = asked-room m h c.asked_shape-h.ensures c.if-m-gt8.false in
-    let p₁ = section-put ss 0 cleared room 0 (lit< tt) (none-put ss 0 cleared room) c.put_u32-a.ensures in
+    let p₁ = section-put ss 0 cleared room 0 (lit< tt) (none-put ss 0 cleared room) c.put-a.ensures in
     let p₂ = section-put ss 0 cleared room 1 (lit< tt) p₁ c.put_front-b.ensures in
     let p₃ = section-put ss 0 cleared room 2 (lit< tt) p₂ c.put-c.ensures in
     let p₄ = section-put ss 0 cleared room 3 (lit< tt) p₃ c.put_if-n.ensures in
@@ -71,7 +75,7 @@ returns c =
     let h = c.asked_shape-h.result in
     let ss = asked_built m h in
     let room = asked-room m h c.asked_shape-h.ensures c.if-m-gt8.false in
-    let p₁ = section-put ss 0 cleared room 0 (lit< tt) (none-put ss 0 cleared room) c.put_u32-a.ensures in
+    let p₁ = section-put ss 0 cleared room 0 (lit< tt) (none-put ss 0 cleared room) c.put-a.ensures in
     let p₂ = section-put ss 0 cleared room 1 (lit< tt) p₁ c.put_front-b.ensures in
     let p₃ = section-put ss 0 cleared room 2 (lit< tt) p₂ c.put-c.ensures in
     let p₄ = section-put ss 0 cleared room 3 (lit< tt) p₃ c.put_if-n.ensures in

@@ -6,8 +6,8 @@ use Rattle.xdr.specs.Form.{flat}
 use Rattle.xdr.specs.Over.{put-put}
 use Rattle.parts.proofs.item.put_rows.Goals as goal
 
-pub put_u32-entries-requires : goal.put_u32-entries-requires
-put_u32-entries-requires g c =
+pub put-entries-requires : goal.put-entries-requires
+put-entries-requires g c =
     let a = c.args in
     omega (arith, length-append (be 4 a.count) (flat g.T.Item.form (take a.count a.list.now)), be-length 4 a.count, c.requires)
 
@@ -16,4 +16,4 @@ returns g c =
     let a = c.args in
     let F = g.T.Item.form in
     let q = rw (c.min-n.ensures, take_min) at c.put_all.ensures in
-    put-put a.at (be 4 a.count) (flat F (take a.count a.list.now)) a.out.now (omega (arith, length-append (be 4 a.count) (flat F (take a.count a.list.now)), c.requires)) c.put_u32-entries.ensures q
+    put-put a.at (be 4 a.count) (flat F (take a.count a.list.now)) a.out.now (omega (arith, length-append (be 4 a.count) (flat F (take a.count a.list.now)), c.requires)) c.put-entries.ensures q

@@ -1,7 +1,13 @@
--- The room is for 4 bytes. Assumes nothing.
-use Rattle.std.proofs.Common.{arith}
-use Rattle.xdr.specs.Word.{be-length}
+-- The tail is lent, and four bytes are written at its front. Assumes nothing.
+use Rattle.std.proofs.Common.{refl}
+use Rattle.xdr.specs.Word.{be}
+use Rattle.xdr.specs.Over.{put-part, part_room}
 use Rattle.parts.proofs.item.U32Item.put.Goals as goal
 
 pub put_u32-requires : goal.put_u32-requires
-put_u32-requires c = omega (arith, be-length 4 c.args.self.now, c.requires)
+unfolding be
+put_u32-requires c = part_room _ 4 c.args.out.now c.requires
+
+pub returns : goal.returns
+unfolding be
+returns c = put-part _ _ _ _ c.put_u32.ensures refl refl
