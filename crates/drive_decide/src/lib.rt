@@ -70,13 +70,8 @@ pub fn decide0(vote: Option<Set>, words: InShards) -> Turn
 {
     match vote {
         Some(v) => Turn::to(2, v),
-        None => {
-            if words.equal {
-                Turn::to(2, words.union)
-            } else {
-                Turn::to_phase1()
-            }
-        }
+        None if words.equal => Turn::to(2, words.union),
+        None => Turn::to_phase1(),
     }
 }
 

@@ -20,14 +20,8 @@ fn better(d: &Drive, s: usize, best: Option<usize>) -> Option<usize>
         return best;
     }
     match best {
-        Some(b) => {
-            if d.answers[b].accepted.ballot < a.accepted.ballot {
-                Some(s)
-            } else {
-                best
-            }
-        }
-        None => Some(s),
+        Some(b) if a.accepted.ballot <= d.answers[b].accepted.ballot => best,
+        _ => Some(s),
     }
 }
 

@@ -43,6 +43,7 @@ impl Walked {
     }
 
     // One answer more, that of the server `s` to the drive `d`.
+    #[tactic(auto, using(crate::proofs::Parts::not_counted))]
     pub fn further(self, d: &Drive, shards: u64, s: usize, a: &Answer) -> Walked
         requires { s < 12 }
         ensures { result ≡ further d.now.t shards d.now.phase s a.now self }
