@@ -27,7 +27,7 @@ use Rattle.drive.specs.Decide.{answered, all_answered, counted_in, two_in, two_i
 use Rattle.drive.specs.Form.{numbers_formed, ballots_formed, word_formed, accepted_formed, answer_formed, too_few, set_formed, formed}
 use Rattle.drive.specs.Due.{servers_of}
 use Rattle.drive_form.specs.declared.Walked.{Walked}
-use Rattle.drive_form.specs.Parts.{numbers_kept, ballots_kept, set_kept, two_of, two_from, enough, word_of, word_at, accepted_at, at_first, further, walked_to, answers_kept, formed_by}
+use Rattle.drive_form.specs.Parts.{set_kept, two_of, two_from, enough, word_of, word_at, accepted_at, at_first, further, walked_to, answers_kept, formed_by}
 
 -- ---- two of three
 
@@ -97,14 +97,14 @@ module _ (d : Drive) (w : ℕ) where
   unfolding walked_to
   walked-first = rw (← mask-none (counted d), ← unions-none (word_at d), ← all_none (accepted_at d w))
 
-  pub walked_further : (n : ℕ) → walked_to d w (n + 1) ≡ further d.t w d.phase n (answer_at d n) (walked_to d w n)
+  pub walked_further : (n : ℕ) → walked_to d w (n + 1) ≡ further d w n (answer_at d n) (walked_to d w n)
   unfolding walked_to
   walked_further n = rw (mask_step (counted d) n, unions-step (word_at d) n, all-step (accepted_at d w) n)
 
 -- an answer that is not counted adds nothing
-pub not_counted : (t w p s : ℕ) (a : Answer) (l : Walked) → there a.counted ≡ false → l ≡ further t w p s a l
+pub not_counted : (d : Drive) (w s : ℕ) (a : Answer) (l : Walked) → there a.counted ≡ false → l ≡ further d w s a l
 unfolding union accepted_formed
-not_counted t w p s a l e = rw (e, and-false (eqb p 0), and-true l.kept, or_zero_r l.words)
+not_counted d w s a l e = rw (e, and-false (eqb d.phase 0), and-true l.kept, or_zero_r l.words)
 
 -- ---- the answers of the walk
 
@@ -181,11 +181,11 @@ module _ (d : Drive) where
   -- ---- the form
 
   -- the pieces keep their rule, so that the word has the shards that they touch
-  kept-form : pieces_kept d.pieces ≡ true → formed_by d.t d.coordinator d.ballot d.phase d.seen d.chosen (touched d) (walked_to d (touched d) 12) ≡ formed d
-  unfolding formed_by answers_kept walked_to formed numbers_formed ballots_formed too_few set_formed
+  kept-form : pieces_kept d.pieces ≡ true → formed_by d (touched d) (walked_to d (touched d) 12) ≡ formed d
+  unfolding formed_by answers_kept walked_to formed too_few set_formed
   kept-form e =
       rw (← answers-formed, enough-decided, some-shard, e)
-      (in_order (numbers_kept d.t d.coordinator d.phase) (ballots_kept d.t d.coordinator d.phase d.ballot d.seen) answered-well (all_below voted 12) (eqb d.phase 3 || not (decided d)) (set_kept d.t (touched d) d.phase d.chosen))
+      (in_order (numbers_formed d) (ballots_formed d) answered-well (all_below voted 12) (eqb d.phase 3 || not (decided d)) (set_kept d (touched d)))
     where
       some-shard : not (eqb (touched d) none) ≡ true
       some-shard = ap (λ (w : ℕ). not (eqb w none)) (sym (kept_word d.pieces e)) ∙ kept-touched d.pieces ∙ e
@@ -199,11 +199,11 @@ module _ (d : Drive) where
       in_order true false a k f s = refl
       in_order false b a k f s = refl
 
-  broken-form : pieces_kept d.pieces ≡ false → formed_by d.t d.coordinator d.ballot d.phase d.seen d.chosen none (walked_to d none 12) ≡ formed d
+  broken-form : pieces_kept d.pieces ≡ false → formed_by d none (walked_to d none 12) ≡ formed d
   unfolding formed_by formed
-  broken-form e = rw (e, and-false (numbers_kept d.t d.coordinator d.phase), and-false (numbers_formed d))
+  broken-form e = rw (e, and-false (numbers_formed d))
 
-  pub formed-by : formed_by d.t d.coordinator d.ballot d.phase d.seen d.chosen (touched_by d.pieces) (walked_to d (touched_by d.pieces) 12) ≡ formed d
+  pub formed-by : formed_by d (touched_by d.pieces) (walked_to d (touched_by d.pieces) 12) ≡ formed d
   formed-by =
       ⊎_elim
       (λ e. rw (kept_word d.pieces e) (kept-form e))

@@ -4,35 +4,27 @@ use Rattle.masks.specs.Bits.{has, none, insert, union, both, within}
 use Rattle.masks.specs.Folds.{all_below, mask_of, union_of}
 use Rattle.rules.specs.Choice.{◌if◌else◌}
 use Rattle.rules.specs.Flags.{there, implies}
-use Rattle.rules.specs.Cluster.{bad_number, bad_coordinator, server_of}
-use Rattle.rules.specs.Ballots.{bad_ballot, may_use}
+use Rattle.rules.specs.Cluster.{server_of}
 use Rattle.rules.specs.Sets.{bad_set}
-use Rattle.rules.specs.declared.MaybeSet.{MaybeSet}
 use Rattle.drive.specs.declared.Answer.{Answer}
 use Rattle.drive.specs.declared.Drive.{Drive}
 use Rattle.drive.specs.Held.{answer_at, counted, touched}
 use Rattle.drive.specs.Decide.{has_word}
-use Rattle.drive.specs.Form.{accepted_formed, formed}
+use Rattle.drive.specs.Form.{numbers_formed, ballots_formed, accepted_formed, formed}
 use Rattle.drive.specs.Due.{servers_of}
 use Rattle.drive_form.specs.declared.Walked.{Walked}
 use Rattle.drive_form.specs.declared.Counted.{Counted}
 use Rattle.rules.specs.declared.refusals.Refusal.{Refusal}
 use Rattle.rules.specs.declared.refusals.Refusal.TheVariants.{OutOfForm}
 
--- ---- numbers, ballots, one answer, the set
-
-abbrev pub numbers_kept : (t coordinator phase : ℕ) → Bool
-numbers_kept t c p = not (bad_number t) && not (bad_coordinator c) && leb p 3
-
-abbrev pub ballots_kept : (t coordinator phase ballot seen : ℕ) → Bool
-ballots_kept t c p b seen = may_use c t b && implies (eqb p 0) (not (eqb b 0)) && not (bad_ballot seen)
+-- ---- what is no answer
 
 -- w has the shards that the pieces touch, none if they break their rule
-abbrev pub head_kept : (t coordinator ballot phase seen w : ℕ) → Bool
-head_kept t c b p seen w = numbers_kept t c p && not (eqb w none) && ballots_kept t c p b seen
+abbrev pub head_kept : Drive → (w : ℕ) → Bool
+head_kept d w = numbers_formed d && not (eqb w none) && ballots_formed d
 
-abbrev pub set_kept : (t touched phase : ℕ) → MaybeSet → Bool
-set_kept t touched p v = there v.some && not (bad_set t touched v.set) if leb 2 p else not (there v.some)
+abbrev pub set_kept : Drive → (touched : ℕ) → Bool
+set_kept d touched = there d.chosen.some && not (bad_set d.t touched d.chosen.set) if leb 2 d.phase else not (there d.chosen.some)
 
 -- ---- whether the servers of the word w decide
 
@@ -64,9 +56,9 @@ word_of a = a.arrival.word if has_word a else 0
 abbrev pub at_first : Walked
 at_first = record { answered = none; words = none; kept = true }
 
-abbrev pub further : (t touched phase s : ℕ) → Answer → Walked → Walked
-further t touched p s a l =
-    record { answered = cond (there a.counted) (insert l.answered s) l.answered; words = union l.words (word_of a); kept = l.kept && accepted_formed t touched p a }
+abbrev pub further : Drive → (touched s : ℕ) → Answer → Walked → Walked
+further d touched s a l =
+    record { answered = cond (there a.counted) (insert l.answered s) l.answered; words = union l.words (word_of a); kept = l.kept && accepted_formed d.t touched d.phase a }
 
 abbrev pub word_at : Drive → ℕ → ℕ
 word_at d s = word_of (answer_at d s)
@@ -78,22 +70,18 @@ accepted_at d touched s = accepted_formed d.t touched d.phase (answer_at d s)
 unfoldable pub walked_to : Drive → (touched n : ℕ) → Walked
 walked_to d touched n = record { answered = mask_of (counted d) n; words = union_of (word_at d) n; kept = all_below (accepted_at d touched) n }
 
--- the counted servers w, and what is in any of their words
-unfoldable pub answers_kept : (t phase touched w words : ℕ) → Bool
-answers_kept t p touched w words =
-    within w (servers_of touched)
-    && implies (eqb p 3) (eqb w none)
-    && implies (ltb p 2) (not (has words t))
-    && (eqb p 3 || not (enough p touched w))
+-- the counted servers, and what is in any of their words
+unfoldable pub answers_kept : Drive → (touched : ℕ) → Walked → Bool
+answers_kept d touched l =
+    within l.answered (servers_of touched)
+    && implies (eqb d.phase 3) (eqb l.answered none)
+    && implies (ltb d.phase 2) (not (has l.words d.t))
+    && (eqb d.phase 3 || not (enough d.phase touched l.answered))
 
 -- ---- all of them
 
-unfoldable pub formed_by : (t coordinator ballot phase seen : ℕ) → MaybeSet → (touched : ℕ) → Walked → Bool
-formed_by t c b p seen v touched l =
-    head_kept t c b p seen touched
-    && answers_kept t p touched l.answered l.words
-    && l.kept
-    && set_kept t touched p v
+unfoldable pub formed_by : Drive → (touched : ℕ) → Walked → Bool
+formed_by d touched l = head_kept d touched && answers_kept d touched l && l.kept && set_kept d touched
 
 -- ---- who is counted
 

@@ -46,7 +46,7 @@ impl Walked {
     #[tactic(auto, using(crate::proofs::Parts::not_counted))]
     pub fn further(self, d: &Drive, shards: u64, s: usize, a: &Answer) -> Walked
         requires { s < 12 }
-        ensures { result ≡ further d.now.t shards d.now.phase s a.now self }
+        ensures { result ≡ further d.now shards s a.now self }
     {
         if a.counted == 0 {
             return self;
@@ -88,16 +88,15 @@ fn ballots_formed(d: &Drive) -> bool
 }
 
 // All that is not an answer or a set, where the pieces touch the shards in `shards`: none if they break their rule.
-#[tactic(auto, unfolding(drive::specs::Form::numbers_formed, drive::specs::Form::ballots_formed))]
 pub fn head_formed(d: &Drive, shards: u64) -> bool
-    ensures { result ≡ head_kept d.now.t d.now.coordinator d.now.ballot d.now.phase d.now.seen shards }
+    ensures { result ≡ head_kept d.now shards }
 {
     numbers_formed(d) & !masks::is_empty(shards) & ballots_formed(d)
 }
 
 // A set is held exactly in phases 2 and 3, and keeps rule 3.
 pub fn set_formed(d: &Drive, shards: u64) -> bool
-    ensures { result ≡ set_kept d.now.t shards d.now.phase d.now.chosen }
+    ensures { result ≡ set_kept d.now shards }
 {
     let held = d.chosen.some != 0;
     if d.phase < 2 {
@@ -109,7 +108,7 @@ pub fn set_formed(d: &Drive, shards: u64) -> bool
 // The counted servers, and what is in any of their words: from touched servers only, none in phase 3, no word with the number itself, and too few to decide.
 #[tactic(auto, unfolding(crate::specs::Parts::answers_kept))]
 pub fn answers_formed(d: &Drive, shards: u64, walked: Walked) -> bool
-    ensures { result ≡ answers_kept d.now.t d.now.phase shards walked.answered walked.words }
+    ensures { result ≡ answers_kept d.now shards walked }
 {
     let last = d.phase == 3;
     let counted = Counted {
@@ -125,7 +124,7 @@ pub fn answers_formed(d: &Drive, shards: u64, walked: Walked) -> bool
 // The form, from the touched shards of a drive and the walk of its answers.
 #[tactic(auto, unfolding(crate::specs::Parts::formed_by))]
 pub fn formed_by(d: &Drive, shards: u64, walked: Walked) -> bool
-    ensures { result ≡ formed_by d.now.t d.now.coordinator d.now.ballot d.now.phase d.now.seen d.now.chosen shards walked }
+    ensures { result ≡ formed_by d.now shards walked }
 {
     head_formed(d, shards) & answers_formed(d, shards, walked) & walked.kept & set_formed(d, shards)
 }

@@ -23,6 +23,7 @@ use Rattle.drive.specs.declared.Drive.{Drive}
 use Rattle.drive.specs.Held.{no_answer, counted, touched}
 use Rattle.drive.specs.Form.{formed}
 use Rattle.drive.specs.Hear.{not_taken, other_phase, misplaced, other_pieces, refusal}
+use Rattle.drive_form.specs.Parts.{counted_of}
 use Rattle.drive_refusals.specs.Refusals.{bad_head, elsewhere, bad_held, first_of_three, done_by, judged_by}
 
 -- ---- the codes that a drive takes
@@ -66,7 +67,7 @@ module _ (d : Drive) (full : length d.answers ≡ 12) (m : Message) where
       else 0
 
   abbrev judged : ℕ
-  judged = judged_by d.t d.ballot d.phase d.pieces (touched d) counts m
+  judged = judged_by d (counted_of d) m
 
   abbrev Judged : Type 0
   Judged = judged ≡ in_order

@@ -21,7 +21,7 @@ use wire::Message;
 // A server's reply has a number, server or ballot out of its range.
 #[tactic(auto, unfolding(crate::specs::Refusals::bad_head))]
 fn bad_head(m: &Message) -> bool
-    ensures { result ≡ bad_head m.now.t m.now.server m.now.ballot }
+    ensures { result ≡ bad_head m.now }
 {
     bad_number(m.t) | bad_server(m.server) | bad_ballot(m.ballot)
 }
@@ -29,7 +29,7 @@ fn bad_head(m: &Message) -> bool
 // A server's reply is for another number or ballot, or from a server that is not one of the touched shards.
 #[tactic(auto, unfolding(crate::specs::Refusals::elsewhere))]
 fn elsewhere(d: &Drive, shards: u64, m: &Message) -> bool
-    ensures { result ≡ elsewhere d.now.t d.now.ballot shards m.now.t m.now.server m.now.ballot }
+    ensures { result ≡ elsewhere d.now shards m.now }
 {
     (m.t != d.t) | (m.ballot != d.ballot) | !addressed(shards, m.server)
 }
@@ -37,7 +37,7 @@ fn elsewhere(d: &Drive, shards: u64, m: &Message) -> bool
 // A PrepareOK has an arrival word or an accepted set that breaks its rule.
 #[tactic(auto, unfolding(crate::specs::Refusals::bad_held))]
 fn bad_held(shards: u64, m: &Message) -> bool
-    ensures { result ≡ bad_held shards m.now.t m.now.arrival m.now.accepted }
+    ensures { result ≡ bad_held shards m.now }
 {
     ((m.arrival.some != 0) & masks::has(m.arrival.word, m.t as usize))
         | ((m.accepted.some != 0) & bad_set(m.t, shards, m.accepted.set))
@@ -63,7 +63,7 @@ fn first(out_of_range: bool, misplaced: bool, bad_set: bool) -> Result<(), Refus
 // What is wrong with a Done.
 #[tactic(auto, unfolding(crate::specs::Refusals::done_by))]
 fn judge_done(d: &Drive, shards: u64, m: &Message) -> Result<(), Refusal>
-    ensures { told result ≡ done_by d.now.t d.now.phase d.now.pieces shards m.now.t m.now.pieces m.now.set }
+    ensures { told result ≡ done_by d.now shards m.now }
 {
     if too_many(m.pieces) {
         return Err(Refusal::Unknown);
@@ -89,7 +89,7 @@ fn judge_done(d: &Drive, shards: u64, m: &Message) -> Result<(), Refusal>
 // What is wrong with a reply at this drive, by its code: an OK belongs to one phase, and its server is not counted yet; Behind and Done belong to any phase but 3, and Behind may come from a counted server.
 #[tactic(auto, unfolding(crate::specs::Refusals::judged_by))]
 pub fn judge(d: &Drive, counted: Counted, m: &Message) -> Result<(), Refusal>
-    ensures { told result ≡ judged_by d.now.t d.now.ballot d.now.phase d.now.pieces counted.shards counted.answered m.now }
+    ensures { told result ≡ judged_by d.now counted m.now }
 {
     let head = bad_head(m);
     let away = elsewhere(d, counted.shards, m);
