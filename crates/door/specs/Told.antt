@@ -5,10 +5,16 @@ use Rattle.rules.specs.Refusal.{number_of}
 use Rattle.server.specs.declared.Ran.{Ran}
 use Rattle.door.specs.declared.Answer.{Answer}
 use Rattle.door.specs.declared.Counted.{Counted}
+use Rattle.door.specs.declared.Due.{Due}
+use Rattle.door.specs.declared.Posted.{Posted}
 
 abbrev pub answered : Result ℕ Refusal → Answer
 answered (Ok n) = record { refusal = 0; length = n }
 answered (Err r) = record { refusal = number_of r; length = 0 }
+
+abbrev pub due_as : Result Posted Refusal → Due
+due_as (Ok p) = record { refusal = 0; length = p.length; servers = p.servers }
+due_as (Err r) = record { refusal = number_of r; length = 0; servers = 0 }
 
 abbrev pub counted_as : Result ℕ Refusal → Counted
 counted_as (Ok n) = record { refusal = 0; many = n }

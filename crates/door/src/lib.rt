@@ -2,7 +2,7 @@
 #![tactic(auto)]
 
 ghost use Rattle.std.specs.Prelude.{◌≡◌};
-ghost use Rattle.door.specs.Told.{answered, counted_as};
+ghost use Rattle.door.specs.Told.{answered, due_as, counted_as};
 
 use rules::refusals::Refusal;
 
@@ -38,6 +38,32 @@ pub struct Due {
     pub refusal: u32,
     pub length: u32,
     pub servers: u32,
+}
+
+// What is posted to a drive's servers: how many bytes the message has, and to which servers.
+#[derive(Clone, Copy)]
+pub struct Posted {
+    pub length: u32,
+    pub servers: u32,
+}
+
+impl From<Result<Posted, Refusal>> for Due {
+    ghost from_gives = { λ posted d. d ≡ due_as posted };
+
+    fn from(posted: Result<Posted, Refusal>) -> Due {
+        match posted {
+            Ok(posted) => Due {
+                refusal: 0,
+                length: posted.length,
+                servers: posted.servers,
+            },
+            Err(refusal) => Due {
+                refusal: refusal.number(),
+                length: 0,
+                servers: 0,
+            },
+        }
+    }
 }
 
 // What a run tells: the refusal or 0, and how many numbers ran.
