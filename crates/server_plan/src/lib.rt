@@ -60,6 +60,8 @@ fn committed_with(w: u64, t: usize, c: &MaybeSet) -> u64
 }
 
 // What the numbers wait for that is not in the word: each committed set is read in its place.
+// It stays a function of its own, so that its words lie on the stack once.
+#[inline(never)]
 pub fn waiting_in(s: &Server, word: u64) -> Waiting
     ensures { result ≡ waiting_in s.now word 64 }
 {
@@ -85,11 +87,10 @@ fn log_group(l: &mut Log, g: u64)
     }
 }
 
-// The log after at most `limit` runs. Where all that is committed has run, nothing is looked for.
-fn planned_log(rows: &[u64; 64], committed: u64, ran: u64, log: &Log, limit: u32) -> Log
-    ensures { result ≡ planned_log rows.now committed limit ran log.now }
+// The runs, at most `limit`, at the end of a log in its place. Where all that is committed has run, nothing is looked for.
+fn planned_log(rows: &[u64; 64], committed: u64, ran: u64, l: &mut Log, limit: u32)
+    ensures { l.new ≡ planned_log rows.now committed limit ran l.old }
 {
-    let mut l = *log;
     let mut r = ran;
     for run in 0..limit {
         if masks::within(committed, r) {
@@ -98,10 +99,9 @@ fn planned_log(rows: &[u64; 64], committed: u64, ran: u64, log: &Log, limit: u32
         let Some(g) = graph::next_group(rows, committed, r) else {
             break;
         };
-        log_group(&mut l, g);
+        log_group(&mut *l, g);
         r = masks::union(r, g);
     }
-    l
 }
 
 // The plan of at most `limit` runs.
@@ -110,7 +110,8 @@ pub fn plan_by(f: Form, d: &Waiting, log: &Log, limit: u32) -> Planned
 {
     let mut rows = d.deps;
     graph::close(&mut rows);
-    let l = planned_log(&rows, d.committed, f.word, log, limit);
+    let mut l = *log;
+    planned_log(&rows, d.committed, f.word, &mut l, limit);
     Planned {
         many: l.count.saturating_sub(log.count),
         plan: Plan {

@@ -5,4 +5,4 @@ use Rattle.server_plan.proofs.plan_by.Goals as goal
 
 pub returns : goal.returns
 unfolding planned_by allowed
-returns c = rw (c.saturating_sub.ensures, c.planned_log-l.ensures, c.close.ensures)
+returns c = rw (c.saturating_sub.ensures, c.planned_log.ensures, c.close.ensures)

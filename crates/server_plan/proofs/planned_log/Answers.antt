@@ -8,7 +8,7 @@ use Rattle.server_plan.proofs.planned_log.Goals as goal
 pub loop-run-init : goal.loop-run-init
 loop-run-init c =
     let all : c.args.limit - 0 ≡ c.args.limit = omega arith in
-    ap (λ (n : ℕ). planned_log c.args.rows.now c.args.committed n c.args.ran c.args.log.now) all
+    ap (λ (n : ℕ). planned_log c.args.rows.now c.args.committed n c.args.ran c.args.l.now) all
 
 pub loop-run-preserved : goal.loop-run-preserved
 loop-run-preserved c =
