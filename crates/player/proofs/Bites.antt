@@ -1,7 +1,8 @@
 -- A portion is chewed bite by bite: turns are never short, since each bite takes a byte. And what code does with a record's data is what is played.
-use Rattle.std.proofs.Common.{length-append, ◌≡◌, ℕ, zero, suc, ◌+◌, ◌-◌, ◌<◌, ◌≤◌, Bool, true, false, not, ◌&&◌, ◌||◌, eqb, ltb, leb, List, [], ◌++◌, length, get_or, take, drop, set, sym, refl, ap, ◌∙◌, true≢false, zero-add, add-zero, add_assoc, subst, append_assoc, append-nil, arith, length-take, length-drop, drop-drop, ltb-true, ltb-false, leb-true, le-ltb, lt-ltb, ne_eqb}
+use Rattle.std.proofs.Common.{length-append, ◌≡◌, ℕ, zero, suc, ◌+◌, ◌-◌, ◌<◌, ◌≤◌, Bool, true, false, not, ◌&&◌, ◌||◌, eqb, ltb, leb, Some, None, List, [], ◌++◌, length, get_or, take, drop, set, sym, refl, ap, ◌∙◌, true≢false, zero-add, add-zero, add_assoc, subst, append_assoc, append-nil, arith, length-take, length-drop, drop-drop, ltb-true, ltb-false, leb-true, le-ltb, lt-ltb, ne_eqb}
 use native.Mathlib.Decide.{dec_le}
 use Rattle.std.proofs.lemmas.Bool.{eqb-false}
+use Rattle.std.proofs.lemmas.Option.{none-some, same_Some}
 use Rattle.std.proofs.lemmas.List.{drop-take, get_or_default}
 use Rattle.rules.specs.Choice.{◌if◌else◌}
 use Rattle.rules.specs.Flags.{there}
@@ -23,7 +24,7 @@ use Rattle.player.specs.declared.Walk.{Walk}
 use Rattle.player.specs.declared.Look.{Look}
 use Rattle.player.specs.declared.Play.{Play}
 use Rattle.player.specs.Replay.{unread, read, room, answered, Played, played}
-use Rattle.player.specs.Walking.{WINDOW, OVER, seen, going, takes, filled, turned, whole, after_data, looked, look, shown_of, answer_shown, Chewed, bite, unchewed, more, chew, chewed, played_of}
+use Rattle.player.specs.Walking.{WINDOW, seen, reading, going, takes, filled, turned, whole, after_data, looked, look, shown_of, answer_shown, Chewed, bite, unchewed, more, chew, chewed, played_of}
 
 -- ---- turns
 
@@ -39,12 +40,12 @@ both_are false b c e = absurd (true≢false (sym e))
 -- a walk that goes on lacks a byte
 going_left : (w : Walk) → going w ≡ true → 1 ≤ w.left
 unfolding going
-going_left w e = ltb-true 0 w.left (both_are (ltb w.phase OVER) (ltb 0 w.left) (leb w.have WINDOW) e).0
+going_left w e = ltb-true 0 w.left (both_are (reading w.phase) (ltb 0 w.left) (leb w.have WINDOW) e).0
 
 -- and has room in the window
 pub going_has : (w : Walk) → going w ≡ true → w.have ≤ WINDOW
 unfolding going
-going_has w e = leb-true w.have WINDOW (both_are (ltb w.phase OVER) (ltb 0 w.left) (leb w.have WINDOW) e).1
+going_has w e = leb-true w.have WINDOW (both_are (reading w.phase) (ltb 0 w.left) (leb w.have WINDOW) e).1
 
 module _ (w : Walk) (ss : List Server) (xs : List ℕ) where
   abbrev v : Walk
@@ -167,16 +168,16 @@ chewed_goes w ss xs r g =
 -- ---- a record's data
 
 -- what the data says by itself decides what is played
-look_short : (xs : List ℕ) → length xs < 4 → (look xs).fed ≡ false
+look_short : (xs : List ℕ) → length xs < 4 → (look xs).to ≡ None
 unfolding look
 look_short xs h = rw (lt-ltb (length xs) 4 h)
 
-pub fed_long : (xs : List ℕ) → (look xs).fed ≡ true → 4 ≤ length xs
-fed_long xs e = go (dec_le 4 (length xs))
+pub fed_long : (xs : List ℕ) (n : ℕ) → (look xs).to ≡ Some n → 4 ≤ length xs
+fed_long xs n e = go (dec_le 4 (length xs))
   where
     go : Dec (4 ≤ length xs) → 4 ≤ length xs
     go (yes h) = h
-    go (no h) = absurd (true≢false (sym e ∙ look_short xs (omega (arith, h))))
+    go (no h) = absurd (none-some n (sym (look_short xs (omega (arith, h))) ∙ e))
 
 module _ (ss : List Server) (xs : List ℕ) where
   abbrev to : ℕ
@@ -187,11 +188,11 @@ module _ (ss : List Server) (xs : List ℕ) where
 
   abbrev sees : (a b c d : Bool) → Look
   sees a b c d =
-      looked (unread 10) false 0 if a
-      else looked (unread 1) false 0 if b
-      else looked (unread m.refusal) false 0 if c
-      else looked (read m.message Dash) false 0 if d
-      else looked (read m.message Dash) true to
+      looked (unread 10) None if a
+      else looked (unread 1) None if b
+      else looked (unread m.refusal) None if c
+      else looked (read m.message Dash) None if d
+      else looked (read m.message Dash) (Some to)
 
   abbrev plays : (e : Exchange) → (a b c d : Bool) → Played
   plays e a b c d =
@@ -201,29 +202,29 @@ module _ (ss : List Server) (xs : List ℕ) where
       else record { told = read m.message Dash; servers = ss } if d
       else record { told = read m.message (answered e); servers = set ss to e.server }
 
-  pub not_fed : (look xs).fed ≡ false → played ss xs ≡ record { told = (look xs).told; servers = ss }
+  pub not_fed : (look xs).to ≡ None → played ss xs ≡ record { told = (look xs).told; servers = ss }
   unfolding look played
   not_fed = go (taken (get_or ss to (fresh_server to)) (drop 4 xs) room) (ltb (length xs) 4) (leb (SERVERS + COORDINATORS) to) (there m.refusal) (leb SERVERS to)
     where
-      go : (e : Exchange) (a b c d : Bool) → (sees a b c d).fed ≡ false → plays e a b c d ≡ record { told = (sees a b c d).told; servers = ss }
+      go : (e : Exchange) (a b c d : Bool) → (sees a b c d).to ≡ None → plays e a b c d ≡ record { told = (sees a b c d).told; servers = ss }
       go e true b c d f = refl
       go e false true c d f = refl
       go e false false true d f = refl
       go e false false false true f = refl
-      go e false false false false f = absurd (true≢false f)
+      go e false false false false f = absurd (none-some to (sym f))
 
-  pub is_fed : (look xs).fed ≡ true → (let e = taken (get_or ss (look xs).to (fresh_server (look xs).to)) (drop 4 xs) room in
-      played ss xs ≡ record { told = answer_shown (look xs).told e.answer e.output; servers = set ss (look xs).to e.server })
+  pub is_fed : (n : ℕ) → (look xs).to ≡ Some n → (let e = taken (get_or ss n (fresh_server n)) (drop 4 xs) room in
+      played ss xs ≡ record { told = answer_shown (look xs).told e.answer e.output; servers = set ss n e.server })
   unfolding look played answer_shown shown_of answered
-  is_fed = go (ltb (length xs) 4) (leb (SERVERS + COORDINATORS) to) (there m.refusal) (leb SERVERS to)
+  is_fed n = go (ltb (length xs) 4) (leb (SERVERS + COORDINATORS) to) (there m.refusal) (leb SERVERS to)
     where
-      go : (a b c d : Bool) → (sees a b c d).fed ≡ true → (let n = (sees a b c d).to in let e = taken (get_or ss n (fresh_server n)) (drop 4 xs) room in
+      go : (a b c d : Bool) → (sees a b c d).to ≡ Some n → (let e = taken (get_or ss n (fresh_server n)) (drop 4 xs) room in
           plays (taken (get_or ss to (fresh_server to)) (drop 4 xs) room) a b c d ≡ record { told = answer_shown (sees a b c d).told e.answer e.output; servers = set ss n e.server })
-      go true b c d f = absurd (true≢false (sym f))
-      go false true c d f = absurd (true≢false (sym f))
-      go false false true d f = absurd (true≢false (sym f))
-      go false false false true f = absurd (true≢false (sym f))
-      go false false false false f = refl
+      go true b c d f = absurd (none-some n f)
+      go false true c d f = absurd (none-some n f)
+      go false false true d f = absurd (none-some n f)
+      go false false false true f = absurd (none-some n f)
+      go false false false false f = rw (same_Some to n f) refl
 
 -- ---- the loop over a portion
 
@@ -325,18 +326,18 @@ module _ {w : Walk} {ss : List Server} {xs z : List ℕ} {v : Walk} {vs : List S
 -- ---- a record's data as code plays it
 
 -- a server of the twelve took the message, which follows the destination in the window
-pub fed_plays : (vs : List Server) (n : Walk) (l : Look) (d : Server) (r : Answer) (s : Server) (out : List ℕ) (told : Told)
-    → length vs ≡ 12 → l ≡ look (seen n) → l.to < 12 → l.fed ≡ true
-    → (let x = taken (get_or vs l.to d) (take (n.have - 4) (drop 4 n.kept)) room in
-    (r ≡ x.answer) × (s ≡ x.server) × (out ≡ x.output) → told ≡ answer_shown l.told r out → played vs (seen n) ≡ record { told = told; servers = set vs l.to s })
-fed_plays vs n l d r s out told long is below fed t a =
-    let four : 4 ≤ n.have = omega (arith, fed_long (seen n) (rw is at fed), length-take n.have n.kept) in
+pub fed_plays : (vs : List Server) (n : Walk) (l : Look) (to : ℕ) (d : Server) (r : Answer) (s : Server) (out : List ℕ) (told : Told)
+    → length vs ≡ 12 → l ≡ look (seen n) → to < 12 → l.to ≡ Some to
+    → (let x = taken (get_or vs to d) (take (n.have - 4) (drop 4 n.kept)) room in
+    (r ≡ x.answer) × (s ≡ x.server) × (out ≡ x.output) → told ≡ answer_shown l.told r out → played vs (seen n) ≡ record { told = told; servers = set vs to s })
+fed_plays vs n l to d r s out told long is below fed t a =
+    let four : 4 ≤ n.have = omega (arith, fed_long (seen n) to (rw is at fed), length-take n.have n.kept) in
     let m : n.have ≡ 4 + (n.have - 4) = omega arith in
     let part : drop 4 (seen n) ≡ take (n.have - 4) (drop 4 n.kept) = ap (λ (k : ℕ). drop 4 (take k n.kept)) m ∙ drop-take 4 (n.have - 4) n.kept in
-    let from : get_or vs (look (seen n)).to (fresh_server (look (seen n)).to) ≡ get_or vs l.to d = rw (← is) (get_or_default vs l.to (fresh_server l.to) d (omega arith)) in
-    is_fed vs (seen n) (rw is at fed) ∙ rw (from, part, ← is, a, t.2, t.1, t.0) refl
+    let from : get_or vs to (fresh_server to) ≡ get_or vs to d = get_or_default vs to (fresh_server to) d (omega arith) in
+    is_fed vs (seen n) to (rw is at fed) ∙ rw (from, part, ← is, a, t.2, t.1, t.0) refl
 
-pub unfed_plays : (vs : List Server) (n : Walk) (l : Look) → l ≡ look (seen n) → l.fed ≡ false → played vs (seen n) ≡ record { told = l.told; servers = vs }
+pub unfed_plays : (vs : List Server) (n : Walk) (l : Look) → l ≡ look (seen n) → l.to ≡ None → played vs (seen n) ≡ record { told = l.told; servers = vs }
 unfed_plays vs n l is e = not_fed vs (seen n) (rw is at e) ∙ rw (← is) refl
 
 -- ---- what a caller needs of it

@@ -1,5 +1,5 @@
 -- Document 02, request 3: what is printed of a capture, from its bytes alone. Its records are played to twelve fresh servers, in the file's order.
-use Rattle.std.specs.Prelude.{ℕ, zero, suc, ◌+◌, ◌%◌, ◌^◌, Bool, true, false, Some, None, List, [], ◌++◌, length, take, drop, replicate, ◌==◌, nat_le, nat_lt, slice_index_or, slice_set}
+use Rattle.std.specs.Prelude.{ℕ, zero, suc, ◌+◌, ◌%◌, ◌^◌, Bool, Some, None, List, [], ◌++◌, length, take, drop, replicate, ◌==◌, nat_le, nat_lt, slice_index_or, slice_set}
 use Rattle.masks.specs.Folds.{tab}
 use Rattle.rules.specs.Choice.{◌if◌else◌}
 use Rattle.rules.specs.Flags.{there}

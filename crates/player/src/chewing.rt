@@ -8,11 +8,12 @@ ghost use Rattle.player.specs.Walking.{begun, chewed, ending, played_of};
 
 use crate::filling::{after_data, begun, bitten, going, takes, whole};
 use crate::looking::{answered, look};
-use crate::{Play, Walk};
+use crate::{Phase, Play, Walk};
 use capture::text::{LINE, put_line};
 use server::{Log, Server};
 use server_run::first::{fresh_record, no_counters};
 use station::servers::drobulets_server_take;
+use std::array;
 
 #[tactic(auto, unfolding(server::specs::Host::fresh_server))]
 fn fresh_server(id: u32) -> Server
@@ -33,23 +34,10 @@ fn fresh_server(id: u32) -> Server
 }
 
 // Twelve fresh servers, at the front of a file.
-#[tactic(auto, unfolding(crate::specs::Replay::twelve, masks::specs::Folds::tab))]
 pub fn first() -> Play
     ensures { result ≡ record { walk = begun; servers = twelve; taken = 0; made = 0 } }
 {
-    let zero = fresh_server(0);
-    let mut servers = [zero; 12];
-    servers[1] = fresh_server(1);
-    servers[2] = fresh_server(2);
-    servers[3] = fresh_server(3);
-    servers[4] = fresh_server(4);
-    servers[5] = fresh_server(5);
-    servers[6] = fresh_server(6);
-    servers[7] = fresh_server(7);
-    servers[8] = fresh_server(8);
-    servers[9] = fresh_server(9);
-    servers[10] = fresh_server(10);
-    servers[11] = fresh_server(11);
+    let servers = array::from_fn(|i| fresh_server(i as u32));
     let walk = begun();
     Play {
         walk,
@@ -77,9 +65,9 @@ pub fn chew(p: Play, portion: &[u8], out: &mut [u8]) -> Play
             let have = w.have;
             let l = look(&kept[..have]);
             let mut told = l.told;
-            if l.fed {
+            if let Some(to) = l.to {
                 let mut room = [0u8; 176];
-                let a = drobulets_server_take(&mut servers[l.to], &kept[4..have], &mut room);
+                let a = drobulets_server_take(&mut servers[to], &kept[4..have], &mut room);
                 told = answered(told, a, &room);
             }
             made = put_line(out, made, w.number, w.seconds, told);
@@ -97,18 +85,17 @@ pub fn chew(p: Play, portion: &[u8], out: &mut [u8]) -> Play
 }
 
 // The file has no more bytes: the line that ends the walk, if one does, at the front of the output. Answers how many bytes it has.
+#[tactic(auto, unfolding(crate::specs::Walking::ending, capture::specs::Text::bad_header, capture::specs::Text::cut_record, xdr::specs::Over::over))]
 pub fn finish(w: Walk, out: &mut [u8]) -> usize
     requires { LINE ≤ length out.old }
     ensures long { result ≡ length (ending w).text }
     ensures bytes { out.new ≡ over (ending w).text out.old }
 {
-    if w.phase == 0 || 3 <= w.phase {
-        return put_text(out, b"bad header\n");
+    match w.phase {
+        Phase::Opening | Phase::Over => put_text(out, b"bad header\n"),
+        Phase::Heads if w.have == 0 => 0,
+        Phase::Heads | Phase::Data => put_text(out, b"cut record\n"),
     }
-    if w.phase == 1 && w.have == 0 {
-        return 0;
-    }
-    put_text(out, b"cut record\n")
 }
 
 // The text is written at the front of the output. Answers how many bytes it has.

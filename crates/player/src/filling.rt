@@ -4,20 +4,11 @@ ghost use Rattle.std.proofs.Math.Seq.{paste};
 ghost use Rattle.player.specs.Replay.{next};
 ghost use Rattle.player.specs.Walking.{WINDOW, begun, going, takes, keeps, filled, reads, after_header, after_head, turned, whole, after_data};
 
-use crate::Walk;
+use crate::{Phase, Walk};
 use capture::pcap::{HEAD, HEADER};
 
 // A destination, the longest message, and a byte more.
 const WINDOW: usize = 181;
-
-// What is read.
-const OPENING: u32 = 0;
-
-const HEADS: u32 = 1;
-
-const DATA: u32 = 2;
-
-const OVER: u32 = 3;
 
 // At the front of a file.
 #[tactic(auto, unfolding(crate::specs::Walking::begun))]
@@ -25,7 +16,7 @@ pub fn begun() -> Walk
     ensures { result ≡ begun }
 {
     Walk {
-        phase: OPENING,
+        phase: Phase::Opening,
         little: false,
         number: 1,
         seconds: 0,
@@ -40,7 +31,7 @@ pub fn begun() -> Walk
 pub fn going(w: Walk) -> bool
     ensures { result ≡ going w }
 {
-    w.phase < OVER && 0 < w.left && w.have <= WINDOW
+    w.phase != Phase::Over && 0 < w.left && w.have <= WINDOW
 }
 
 // How many of the bytes are of what is read.
@@ -84,7 +75,7 @@ fn filled(w: Walk, xs: &[u8]) -> Walk
     }
 }
 
-fn reads(w: Walk, phase: u32, little: bool, number: u64, seconds: u32, left: u32) -> Walk
+fn reads(w: Walk, phase: Phase, little: bool, number: u64, seconds: u32, left: u32) -> Walk
     ensures { result ≡ reads w phase little number seconds left }
 {
     let kept = w.kept;
@@ -107,9 +98,9 @@ fn after_header(w: Walk) -> Walk
     let kept = w.kept;
     let h = capture::pcap::header(&kept[..HEADER]);
     if h.good {
-        reads(w, HEADS, h.little, w.number, 0, 16)
+        reads(w, Phase::Heads, h.little, w.number, 0, 16)
     } else {
-        reads(w, OVER, false, w.number, 0, 0)
+        reads(w, Phase::Over, false, w.number, 0, 0)
     }
 }
 
@@ -120,22 +111,21 @@ fn after_head(w: Walk) -> Walk
 {
     let kept = w.kept;
     let h = capture::pcap::head(w.little, &kept[..HEAD]);
-    reads(w, DATA, w.little, w.number, h.seconds, h.captured)
+    reads(w, Phase::Data, w.little, w.number, h.seconds, h.captured)
 }
 
+#[tactic(auto, unfolding(crate::specs::Walking::turned))]
 fn turned(w: Walk) -> Walk
     ensures { result ≡ turned w }
 {
     if 0 < w.left {
         return w;
     }
-    if w.phase == OPENING {
-        return after_header(w);
+    match w.phase {
+        Phase::Opening => after_header(w),
+        Phase::Heads => after_head(w),
+        Phase::Data | Phase::Over => w,
     }
-    if w.phase == HEADS {
-        return after_head(w);
-    }
-    w
 }
 
 // The bytes are kept; and where that makes a header or a head whole, what follows it is read.
@@ -152,7 +142,7 @@ pub fn bitten(w: Walk, xs: &[u8]) -> Walk
 pub fn whole(w: Walk) -> bool
     ensures { result ≡ whole w }
 {
-    w.phase == DATA && w.left == 0
+    w.phase == Phase::Data && w.left == 0
 }
 
 // The next record's head is read.
@@ -161,5 +151,5 @@ pub fn after_data(w: Walk) -> Walk
     ensures { result ≡ after_data w }
 {
     let number = std::num::wrapping_add_u64(w.number, 1);
-    reads(w, HEADS, w.little, number, 0, 16)
+    reads(w, Phase::Heads, w.little, number, 0, 16)
 }

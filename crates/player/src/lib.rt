@@ -8,10 +8,19 @@ mod filling; // filling.rt: bytes are kept until what is read is whole
 mod looking; // looking.rt: what a record's data says
 pub mod chewing; // chewing.rt: a portion of the file is played
 
+// What is read: the header, a record's head, its data; or nothing more, since the header is bad.
+#[derive(Clone, Copy, Debug, PartialEq, Eq)]
+pub enum Phase {
+    Opening,
+    Heads,
+    Data,
+    Over,
+}
+
 // Where the walk stands: what is read, the file's byte order, the number of the next line, the record's seconds, how many bytes are still to come, and those kept.
 #[derive(Clone, Copy)]
 pub struct Walk {
-    pub phase: u32,
+    pub phase: Phase,
     pub little: bool,
     pub number: u64,
     pub seconds: u32,
@@ -20,12 +29,11 @@ pub struct Walk {
     pub kept: [u8; 181],
 }
 
-// What a record's data says by itself. Where it is `fed`, the answer is still to come from the server `to`.
+// What a record's data says by itself. Where it is `to` a server, the answer is still to come.
 #[derive(Clone, Copy)]
 pub struct Look {
     pub told: Told,
-    pub fed: bool,
-    pub to: usize,
+    pub to: Option<usize>,
 }
 
 // The walk and its servers, and of the last portion how many bytes were taken, and how many bytes of lines were made.

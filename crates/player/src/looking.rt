@@ -1,5 +1,5 @@
 // What a record's data says.
-ghost use Rattle.std.specs.Prelude.{◌≡◌, ◌<◌, ◌≤◌, false, length};
+ghost use Rattle.std.specs.Prelude.{◌≡◌, ◌<◌, ◌≤◌, None, IfSome, length};
 ghost use Rattle.capture.specs.declared.Shown.TheVariants.{Refusal};
 ghost use Rattle.player.specs.Replay.{unread, read};
 ghost use Rattle.player.specs.Walking.{looked, look, shown_of, answer_shown};
@@ -8,35 +8,32 @@ use crate::Look;
 use capture::{Shown, Told};
 use door::Answer;
 use rules::cluster::{COORDINATORS, SERVERS};
+use rules::refusals::Refusal;
 
 // The data can't be read.
 fn unread(refusal: u32) -> Look
-    ensures { result ≡ looked (unread refusal) false 0 }
+    ensures { result ≡ looked (unread refusal) None }
 {
     let told = Told {
         code: None,
         t: None,
         answer: Shown::Refusal(refusal),
     };
-    Look {
-        told,
-        fed: false,
-        to: 0,
-    }
+    Look { told, to: None }
 }
 
 // The destination, and then the message.
 #[tactic(auto, unfolding(crate::specs::Walking::look))]
 pub fn look(bytes: &[u8]) -> Look
     ensures is { result ≡ look bytes.now }
-    ensures server { result.to < 12 }
+    ensures server { IfSome result.to (λ n. n < 12) }
 {
     if bytes.len() < 4 {
-        return unread(10);
+        return unread(Refusal::Cut.number());
     }
     let to = xdr::word_at(bytes, 0);
     if SERVERS + COORDINATORS <= to {
-        return unread(1);
+        return unread(Refusal::OutOfRange.number());
     }
     let d = codec::decode(&bytes[4..]);
     if d.refusal != 0 {
@@ -48,16 +45,11 @@ pub fn look(bytes: &[u8]) -> Look
         answer: Shown::Dash,
     };
     if SERVERS <= to {
-        return Look {
-            told,
-            fed: false,
-            to: 0,
-        };
+        return Look { told, to: None };
     }
     Look {
         told,
-        fed: true,
-        to: to as usize,
+        to: Some(to as usize),
     }
 }
 

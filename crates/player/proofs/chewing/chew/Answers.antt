@@ -5,7 +5,7 @@ use Rattle.player.specs.Replay.{played}
 use Rattle.player.specs.Walking.{seen}
 use Rattle.player.proofs.Bites.{so_far_none, Goes, going_has, takes_some, takes_within, fed_long, so_far_whole, so_far_rest, so_far_ends, fed_plays, unfed_plays, none_stops, no_going, no_room}
 use Rattle.player.proofs.chewing.chew.Goals as goal
-use Rattle.player.proofs.chewing.chew.Goals.{then-l, else-l}
+use Rattle.player.proofs.chewing.chew.Goals.{in-Some, in_default}
 
 pub loop-at-init : goal.loop-at-init
 loop-at-init c = so_far_none c.args.p.walk c.args.p.servers c.args.portion.now c.args.out.now c.well_formed.0.1.1.1.0.1.0.1
@@ -21,12 +21,12 @@ overflow_add-at c =
 pub slice_bounds-drobulets_server_take-count : goal.slice_bounds-drobulets_server_take-count
 slice_bounds-drobulets_server_take-count c =
     let n = c.bitten-w.result in
-    omega (arith, fed_long (seen n) (rw c.look-l.ensures.is at c.if-l.true), length-take n.have n.kept)
+    omega (arith, fed_long (seen n) c.in-Some.to (rw c.look-l.ensures.is at c.in-Some.is), length-take n.have n.kept)
 
 pub slice_bounds-drobulets_server_take-start : goal.slice_bounds-drobulets_server_take-start
 slice_bounds-drobulets_server_take-start c =
     let n = c.bitten-w.result in
-    omega (arith, fed_long (seen n) (rw c.look-l.ensures.is at c.if-l.true), length-take n.have n.kept)
+    omega (arith, fed_long (seen n) c.in-Some.to (rw c.look-l.ensures.is at c.in-Some.is), length-take n.have n.kept)
 
 pub loop-at-smaller-then-whole : goal.loop-at-smaller-then-whole
 loop-at-smaller-then-whole c =
@@ -48,18 +48,18 @@ loop-at-preserved-then-whole c =
     record { going = sym c.going.ensures ∙ c.if-going.true; bytes = omega (arith, length-drop c.loop-at.at xs); room = omega arith } in
     let taken = rw take_rest at c.takes-taken.ensures in
     let bitten = rw take_rest at c.bitten-w.ensures.is in
-    let plays : played vs (seen n) ≡ record { told = c.if-l.told; servers = c.if-l.servers } =
-    elim c.if-l.branch [
-      | then-l w ↦ fed_plays vs n l _ w.drobulets_server_take-a.result w.drobulets_server_take-a.new.s w.drobulets_server_take-a.new.output w.answered-told.result c.loop-at.invariant.long c.look-l.ensures.is c.look-l.ensures.server w.if-l.true w.drobulets_server_take-a.ensures w.answered-told.ensures ∙ rw (w.told-is, w.servers-is)
-      | else-l w ↦ unfed_plays vs n l c.look-l.ensures.is w.if-l.false ∙ rw (w.told-is, w.servers-is)
+    let plays : played vs (seen n) ≡ record { told = c.match-l.told; servers = c.match-l.servers } =
+    elim c.match-l.branch [
+      | in-Some w ↦ fed_plays vs n l w.in-Some.to _ w.drobulets_server_take-a.result w.drobulets_server_take-a.new.s w.drobulets_server_take-a.new.output w.answered-told.result c.loop-at.invariant.long c.look-l.ensures.is (rw w.in-Some.is at c.look-l.ensures.server) w.in-Some.is w.drobulets_server_take-a.ensures w.answered-told.ensures ∙ rw (w.told-is, w.servers-is)
+      | in_default w ↦ unfed_plays vs n l c.look-l.ensures.is w.in_default.is ∙ rw (w.told-is, w.servers-is)
     ] in
-    let long : length c.if-l.servers ≡ 12 =
-    elim c.if-l.branch [
-      | then-l w ↦ ap length w.servers-is ∙ length-set vs l.to w.drobulets_server_take-a.new.s ∙ c.loop-at.invariant.long
-      | else-l w ↦ ap length w.servers-is ∙ c.loop-at.invariant.long
+    let long : length c.match-l.servers ≡ 12 =
+    elim c.match-l.branch [
+      | in-Some w ↦ ap length w.servers-is ∙ length-set vs w.in-Some.to w.drobulets_server_take-a.new.s ∙ c.loop-at.invariant.long
+      | in_default w ↦ ap length w.servers-is ∙ c.loop-at.invariant.long
     ] in
     rw (taken, c.after_data-walk.ensures)
-    (so_far_whole c.loop-at.invariant g n (record { told = c.if-l.told; servers = c.if-l.servers }) c.put_line-made.result c.put_line-made.new.out bitten (sym c.whole.ensures ∙ c.if-whole.true) plays long c.put_line-made.ensures)
+    (so_far_whole c.loop-at.invariant g n (record { told = c.match-l.told; servers = c.match-l.servers }) c.put_line-made.result c.put_line-made.new.out bitten (sym c.whole.ensures ∙ c.if-whole.true) plays long c.put_line-made.ensures)
 
 pub loop-at-smaller : goal.loop-at-smaller
 loop-at-smaller c =
