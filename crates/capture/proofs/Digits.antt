@@ -1,22 +1,33 @@
--- The digits of a number as code finds them: none where there is no room, one below ten, else those of a tenth and one more. Assumes nothing.
-use mathlib.Core.Path.{◌≡◌, refl}
-use mathlib.Core.List.{[], ◌∷◌, ◌++◌}
-use Prim.Native.Nat.{ℕ, zero, suc, ◌+◌, ◌-◌, ◌/◌, ◌%◌, ◌<◌, ◌≤◌}
-use native.Mathlib.Omega.{arith}
-use borrow.Author.Tests.{lt-ltb, le-ltb}
-use Rattle.capture.specs.Text.{digits}
+-- The decimal that the library prints is the decimal of a line. Assumes nothing.
+use Rattle.std.proofs.Common.{◌≡◌, ℕ, zero, suc, false, ◌+◌, ◌/◌, ◌%◌, ◌^◌, ◌<◌, ◌≤◌, List, [], ◌∷◌, ◌++◌, sym, ◌∙◌, append_assoc, append-nil, arith, lt-ltb, le-ltb, eq-eqb, ne_eqb}
+use native.Mathlib.Decide.{dec_le}
+use Rattle.std.proofs.Math.Nat.{pow-suc}
+use Rattle.std.specs.Fmt.{digits_onto}
+use Rattle.std.specs.Fmt.{digits as printed}
+use Rattle.std.specs.Fmt.{decimal as printed_decimal}
+use Rattle.capture.specs.Text.{digits, decimal}
 
-pub digits-none : (k n : ℕ) → k ≡ 0 → digits k n ≡ []
+-- the digits of n before others, where there are at most k
+pub digits_before : (j k n : ℕ) (more : List ℕ) → k ≤ j → 1 ≤ k → n < 10 ^ k → digits_onto j 10 false n more ≡ digits k n ++ more
 unfolding digits
-digits-none zero n e = refl
-digits-none (suc k) n e = absurd (omega arith)
+digits_before j zero n more a b h = absurd (omega (arith, b))
+digits_before zero (suc k) n more a b h = absurd (omega (arith, a))
+digits_before (suc j) (suc k) n more a b h = go (dec_le 10 n) (λ s q. digits_before j k (n / 10) ((48 + n % 10) ∷ more) (omega (arith, a)) s q)
+  where
+    some : (i : ℕ) → n < 10 ^ suc i → 10 ≤ n → 1 ≤ i
+    some zero e l = absurd (omega (arith, e, l))
+    some (suc i) e l = omega arith
 
-pub digits_one : (k n : ℕ) → 1 ≤ k → n < 10 → digits k n ≡ (48 + n) ∷ []
-unfolding digits
-digits_one zero n e h = absurd (omega arith)
-digits_one (suc k) n e h = rw (lt-ltb n 10 h)
+    go : Dec (10 ≤ n) → (1 ≤ k → n / 10 < 10 ^ k → digits_onto j 10 false (n / 10) ((48 + n % 10) ∷ more) ≡ digits k (n / 10) ++ (48 + n % 10) ∷ more)
+        → digits_onto (suc j) 10 false n more ≡ digits (suc k) n ++ more
+    go (no l) tenth =
+        let q : n / 10 ≡ 0 = omega (arith, l) in
+        let r : n % 10 ≡ n = omega (arith, l) in
+        rw (eq-eqb (n / 10) 0 q, lt-ltb n 10 (omega (arith, l)), r, lt-ltb n 10 (omega (arith, l)))
+    go (yes l) tenth =
+        rw (ne_eqb (n / 10) 0 (λ e. absurd (omega (arith, l, e))), le-ltb n 10 l, lt-ltb (n % 10) 10 (omega arith))
+        (tenth (some k h l) (omega (arith, h, pow-suc 10 k)) ∙ sym (append_assoc (digits k (n / 10)) ((48 + n % 10) ∷ []) more))
 
-pub digits_more : (k n : ℕ) → 1 ≤ k → 10 ≤ n → digits k n ≡ digits (k - 1) (n / 10) ++ ((48 + n % 10) ∷ [])
-unfolding digits
-digits_more zero n e h = absurd (omega arith)
-digits_more (suc k) n e h = let one : suc k - 1 ≡ k = omega arith in rw (le-ltb n 10 h, one)
+pub decimal_is : (n : ℕ) → n < 2 ^ 64 → printed_decimal n ≡ decimal n
+unfolding printed decimal
+decimal_is n h = digits_before 64 20 n [] (omega arith) (omega arith) (omega arith) ∙ append-nil (digits 20 n)

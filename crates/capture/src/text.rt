@@ -1,7 +1,7 @@
 // Decimals and lines. A writer is lent the whole output and a place, writes there, and tells the next place.
 ghost use Rattle.std.specs.Prelude.{◌≡◌, [], ◌∷◌, ◌+◌, ◌≤◌, length};
 ghost use Rattle.xdr.specs.Over.{Put};
-ghost use Rattle.capture.specs.Text.{digits, decimal, maybe, shown, line, bad_header, cut_record, LINE};
+ghost use Rattle.capture.specs.Text.{decimal, maybe, shown, line, bad_header, cut_record, LINE};
 
 use crate::{Shown, Told};
 
@@ -22,33 +22,15 @@ fn put_byte(out: &mut [u8], at: usize, b: u8) -> usize
     at + 1
 }
 
-fn digit(n: u64) -> u8
-    requires { n ≤ 9 }
-    ensures { result ≡ 48 + n }
-{
-    48 + n as u8
-}
-
-// The digits of `n`, the highest first, at most `k` of them.
-fn put_digits(out: &mut [u8], at: usize, n: u64, k: usize) -> usize
-    requires { at + k ≤ length out.old }
-    ensures { Put at (digits k n) out.old result out.new }
-{
-    if k == 0 {
-        return at;
-    }
-    if n < 10 {
-        return put_byte(out, at, digit(n));
-    }
-    let next = put_digits(out, at, n / 10, k - 1);
-    put_byte(out, next, digit(n % 10))
-}
-
 pub fn put_decimal(out: &mut [u8], at: usize, n: u64) -> usize
     requires { at + 20 ≤ length out.old }
     ensures { Put at (decimal n) out.old result out.new }
 {
-    put_digits(out, at, n, 20)
+    let mut buffer = itoa::Buffer::new();
+    let text = buffer.format(n).as_bytes();
+    let next = at + text.len();
+    out[at..next].copy_from_slice(text);
+    next
 }
 
 // A number where there is one, else a dash.

@@ -1,5 +1,0 @@
--- The room falls at the call.
-use Rattle.capture.proofs.text.+put_digits.Given as goal
-
-abbrev pub decreases-put_digits : goal.decreases-put_digits
-decreases-put_digits l = l.k
