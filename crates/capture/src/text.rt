@@ -45,6 +45,7 @@ fn put_maybe(out: &mut [u8], at: usize, number: Option<u32>) -> usize
     }
 }
 
+#[tactic(auto, unfolding(crate::specs::Text::shown))]
 fn put_shown(out: &mut [u8], at: usize, answer: Shown) -> usize
     requires { at + 22 ≤ length out.old }
     ensures { Put at (shown answer) out.old result out.new }
@@ -61,6 +62,7 @@ fn put_shown(out: &mut [u8], at: usize, answer: Shown) -> usize
 }
 
 // The line of a record.
+#[tactic(auto, using(crate::proofs::Lengths::decimal_short, crate::proofs::Lengths::maybe_short, crate::proofs::Lengths::shown_short))]
 pub fn put_line(out: &mut [u8], at: usize, number: u64, seconds: u32, o: Told) -> usize
     requires { at + LINE ≤ length out.old }
     ensures { Put at (line number seconds o) out.old result out.new }

@@ -5,51 +5,6 @@ use Rattle.capture.proofs.Lengths.{decimal_short, maybe_short, shown_short}
 use Rattle.capture.proofs.InARow.{Row, next, line_in_a_row}
 use Rattle.capture.proofs.text.put_line.Goals as goal
 
-pub put_byte-b-requires : goal.put_byte-b-requires
-put_byte-b-requires c =
-    let a = c.args in
-    omega (arith, decimal_short a.number)
-
-pub put_decimal-c-requires : goal.put_decimal-c-requires
-put_decimal-c-requires c =
-    let a = c.args in
-    omega (arith, decimal_short a.number)
-
-pub put_byte-d-requires : goal.put_byte-d-requires
-put_byte-d-requires c =
-    let a = c.args in
-    omega (arith, decimal_short a.number, decimal_short a.seconds)
-
-pub put_maybe-e-requires : goal.put_maybe-e-requires
-put_maybe-e-requires c =
-    let a = c.args in
-    omega (arith, decimal_short a.number, decimal_short a.seconds)
-
-pub put_byte-f-requires : goal.put_byte-f-requires
-put_byte-f-requires c =
-    let a = c.args in
-    omega (arith, decimal_short a.number, decimal_short a.seconds, maybe_short a.o.code)
-
-pub put_maybe-g-requires : goal.put_maybe-g-requires
-put_maybe-g-requires c =
-    let a = c.args in
-    omega (arith, decimal_short a.number, decimal_short a.seconds, maybe_short a.o.code)
-
-pub put_byte-h-requires : goal.put_byte-h-requires
-put_byte-h-requires c =
-    let a = c.args in
-    omega (arith, decimal_short a.number, decimal_short a.seconds, maybe_short a.o.code, maybe_short a.o.t)
-
-pub put_shown-i-requires : goal.put_shown-i-requires
-put_shown-i-requires c =
-    let a = c.args in
-    omega (arith, decimal_short a.number, decimal_short a.seconds, maybe_short a.o.code, maybe_short a.o.t)
-
-pub put_byte-requires : goal.put_byte-requires
-put_byte-requires c =
-    let a = c.args in
-    omega (arith, decimal_short a.number, decimal_short a.seconds, maybe_short a.o.code, maybe_short a.o.t, shown_short a.o.answer)
-
 pub returns : goal.returns
 returns c =
     let a = c.args in

@@ -4,14 +4,6 @@ use Rattle.xdr.specs.Over.{put-put}
 use Rattle.capture.specs.Text.{shown}
 use Rattle.capture.proofs.text.put_shown.Goals as goal
 
-pub returns-in-Dash : goal.returns-in-Dash
-unfolding shown
-returns-in-Dash c = rw c.in-Dash.is c.put_byte.ensures
-
-pub returns-in-Code : goal.returns-in-Code
-unfolding shown
-returns-in-Code c = rw c.in-Code.is c.put_decimal.ensures
-
 pub returns-in-Refusal : goal.returns-in-Refusal
 unfolding shown
 returns-in-Refusal c =
