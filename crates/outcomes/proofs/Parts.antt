@@ -15,6 +15,10 @@ use Rattle.parts.proofs.item.U32Item.get.Reads as parts·item·U32Item·get-cont
 use Rattle.parts.proofs.item.U32Item.put.Reads as parts·item·U32Item·put-contract
 use Rattle.parts.proofs.item.U64Item.get.Reads as parts·item·U64Item·get-contract
 use Rattle.parts.proofs.item.U64Item.put.Reads as parts·item·U64Item·put-contract
+use Rattle.parts.proofs.item.I32Item.get.Reads as parts·item·I32Item·get-contract
+use Rattle.parts.proofs.item.I32Item.put.Reads as parts·item·I32Item·put-contract
+use Rattle.parts.proofs.item.BoolItem.get.Reads as parts·item·BoolItem·get-contract
+use Rattle.parts.proofs.item.BoolItem.put.Reads as parts·item·BoolItem·put-contract
 use Rattle.parts.proofs.item.put_if.Reads as parts·item·put-if-contract
 use Rattle.parts.proofs.item.get_if.Reads as parts·item·get-if-contract
 use Rattle.parts.proofs.item.put_all.Reads as parts·item·put-all-contract
@@ -83,6 +87,24 @@ parts·item·U64Item·put κ a x y e e' p q = p.next ∙ sym q.next
 
 pub parts·item·U64Item·put·leaves-out : Leaves {B = List ℕ} (λ κ e. e.1.0.now) parts·item·U64Item·put-contract.Post
 parts·item·U64Item·put·leaves-out κ a x y e e' p q = p.bytes ∙ sym q.bytes
+
+pub parts·item·I32Item·get : Answers parts·item·I32Item·get-contract.Post
+parts·item·I32Item·get κ a x y e e' p q = λ i. record { v = (p.value ∙ sym q.value) i; next = (p.next ∙ sym q.next) i }
+
+pub parts·item·I32Item·put : Answers parts·item·I32Item·put-contract.Post
+parts·item·I32Item·put κ a x y e e' p q = p.next ∙ sym q.next
+
+pub parts·item·I32Item·put·leaves-out : Leaves {B = List ℕ} (λ κ e. e.1.0.now) parts·item·I32Item·put-contract.Post
+parts·item·I32Item·put·leaves-out κ a x y e e' p q = p.bytes ∙ sym q.bytes
+
+pub parts·item·BoolItem·get : Answers parts·item·BoolItem·get-contract.Post
+parts·item·BoolItem·get κ a x y e e' p q = λ i. record { v = (p.value ∙ sym q.value) i; next = (p.next ∙ sym q.next) i }
+
+pub parts·item·BoolItem·put : Answers parts·item·BoolItem·put-contract.Post
+parts·item·BoolItem·put κ a x y e e' p q = p.next ∙ sym q.next
+
+pub parts·item·BoolItem·put·leaves-out : Leaves {B = List ℕ} (λ κ e. e.1.0.now) parts·item·BoolItem·put-contract.Post
+parts·item·BoolItem·put·leaves-out κ a x y e e' p q = p.bytes ∙ sym q.bytes
 
 pub parts·item·put-if : (T : _) (L : _) (C : _) (G : _) (d : _) (K : _) (d' : _) (F : _) (d'' : _) → Answers (parts·item·put-if-contract.Post T L C G d K d' F d'')
 parts·item·put-if T L C G d K d' F d'' κ a x y e e' p q = p.next ∙ sym q.next

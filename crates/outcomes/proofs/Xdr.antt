@@ -16,29 +16,17 @@ use Rattle.xdr.proofs.get_i32.Reads as xdr·get-i32-contract
 use Rattle.xdr.proofs.get_bool.Reads as xdr·get-bool-contract
 use Rattle.xdr.proofs.get_count.Reads as xdr·get-count-contract
 
-pub xdr·put-u32 : Answers xdr·put-u32-contract.Post
-xdr·put-u32 κ a x y e e' p q = p.next ∙ sym q.next
+pub xdr·put-u32 : Leaves {B = List ℕ} (λ κ e. e.0.now) xdr·put-u32-contract.Post
+xdr·put-u32 κ a x y e e' p q = p ∙ sym q
 
-pub xdr·put-u32·leaves-out : Leaves {B = List ℕ} (λ κ e. e.0.now) xdr·put-u32-contract.Post
-xdr·put-u32·leaves-out κ a x y e e' p q = p.bytes ∙ sym q.bytes
+pub xdr·put-u64 : Leaves {B = List ℕ} (λ κ e. e.0.now) xdr·put-u64-contract.Post
+xdr·put-u64 κ a x y e e' p q = p ∙ sym q
 
-pub xdr·put-u64 : Answers xdr·put-u64-contract.Post
-xdr·put-u64 κ a x y e e' p q = p.next ∙ sym q.next
+pub xdr·put-i32 : Leaves {B = List ℕ} (λ κ e. e.0.now) xdr·put-i32-contract.Post
+xdr·put-i32 κ a x y e e' p q = p ∙ sym q
 
-pub xdr·put-u64·leaves-out : Leaves {B = List ℕ} (λ κ e. e.0.now) xdr·put-u64-contract.Post
-xdr·put-u64·leaves-out κ a x y e e' p q = p.bytes ∙ sym q.bytes
-
-pub xdr·put-i32 : Answers xdr·put-i32-contract.Post
-xdr·put-i32 κ a x y e e' p q = p.next ∙ sym q.next
-
-pub xdr·put-i32·leaves-out : Leaves {B = List ℕ} (λ κ e. e.0.now) xdr·put-i32-contract.Post
-xdr·put-i32·leaves-out κ a x y e e' p q = p.bytes ∙ sym q.bytes
-
-pub xdr·put-bool : Answers xdr·put-bool-contract.Post
-xdr·put-bool κ a x y e e' p q = p.next ∙ sym q.next
-
-pub xdr·put-bool·leaves-out : Leaves {B = List ℕ} (λ κ e. e.0.now) xdr·put-bool-contract.Post
-xdr·put-bool·leaves-out κ a x y e e' p q = p.bytes ∙ sym q.bytes
+pub xdr·put-bool : Leaves {B = List ℕ} (λ κ e. e.0.now) xdr·put-bool-contract.Post
+xdr·put-bool κ a x y e e' p q = p ∙ sym q
 
 pub xdr·word-at : Answers xdr·word-at-contract.Post
 xdr·word-at κ a x y e e' p q = p ∙ sym q
