@@ -33,7 +33,7 @@ impl From<Result<u32, Refusal>> for Answer {
 
 // The message due to a drive's servers: the refusal or 0, how many bytes it has, and the servers, bit s for the server s. All but the refusal is 0 on a refusal.
 #[repr(C)]
-#[derive(Clone, Copy)]
+#[derive(Clone, Copy, Default)]
 pub struct Due {
     pub refusal: u32,
     pub length: u32,
@@ -59,8 +59,7 @@ impl From<Result<Posted, Refusal>> for Due {
             },
             Err(refusal) => Due {
                 refusal: refusal.number(),
-                length: 0,
-                servers: 0,
+                ..Due::default()
             },
         }
     }
