@@ -52,11 +52,11 @@ fn put_shown(out: &mut [u8], at: usize, answer: Shown) -> usize
 {
     match answer {
         Shown::Dash => put_byte(out, at, DASH),
-        Shown::Code(c) => put_decimal(out, at, c as u64),
+        Shown::Code(c) => put_decimal(out, at, u64::from(c)),
         Shown::Refusal(n) => {
             let a = put_byte(out, at, b'r');
             let b = put_byte(out, a, SPACE);
-            put_decimal(out, b, n as u64)
+            put_decimal(out, b, u64::from(n))
         }
     }
 }
@@ -69,7 +69,7 @@ pub fn put_line(out: &mut [u8], at: usize, number: u64, seconds: u32, o: Told) -
 {
     let a = put_decimal(out, at, number);
     let b = put_byte(out, a, SPACE);
-    let c = put_decimal(out, b, seconds as u64);
+    let c = put_decimal(out, b, u64::from(seconds));
     let d = put_byte(out, c, SPACE);
     let e = put_maybe(out, d, o.code);
     let f = put_byte(out, e, SPACE);

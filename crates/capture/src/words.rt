@@ -1,27 +1,18 @@
 // Numbers in the file's byte order.
-ghost use Rattle.std.specs.Prelude.{◌≡◌, ◌+◌, ◌*◌, ◌≤◌, length};
+ghost use Rattle.std.specs.Prelude.{◌≡◌, ◌+◌, ◌≤◌, length};
 ghost use Rattle.capture.specs.Pcap.{half, word};
-
-fn two(high: u8, low: u8) -> u32
-    ensures { result ≡ high * 256 + low }
-{
-    high as u32 * 256 + low as u32
-}
-
-fn four(a: u8, b: u8, c: u8, d: u8) -> u32
-    ensures { result ≡ a * 16777216 + (b * 65536 + (c * 256 + d)) }
-{
-    two(a, b) * 65536 + two(c, d)
-}
 
 #[tactic(auto, unfolding(crate::specs::Pcap::half, xdr::specs::Word::value))]
 pub fn half(little: bool, s: &[u8], at: usize) -> u32
     requires { at + 2 ≤ length s.now }
     ensures { result ≡ half little s.now at }
 {
-    let a = s[at];
-    let b = s[at + 1];
-    if little { two(b, a) } else { two(a, b) }
+    let bytes = [s[at], s[at + 1]];
+    u32::from(if little {
+        u16::from_le_bytes(bytes)
+    } else {
+        u16::from_be_bytes(bytes)
+    })
 }
 
 #[tactic(auto, unfolding(crate::specs::Pcap::word, xdr::specs::Word::value))]
@@ -29,13 +20,10 @@ pub fn word(little: bool, s: &[u8], at: usize) -> u32
     requires { at + 4 ≤ length s.now }
     ensures { result ≡ word little s.now at }
 {
-    let a = s[at];
-    let b = s[at + 1];
-    let c = s[at + 2];
-    let d = s[at + 3];
+    let bytes = [s[at], s[at + 1], s[at + 2], s[at + 3]];
     if little {
-        four(d, c, b, a)
+        u32::from_le_bytes(bytes)
     } else {
-        four(a, b, c, d)
+        u32::from_be_bytes(bytes)
     }
 }

@@ -1,5 +1,5 @@
 -- What a walk that stands somewhere prints of the bytes to come, and that keeping bytes, turning to what follows, and a record's line keep it. Assumes nothing.
-use Rattle.std.proofs.Common.{◌≡◌, ℕ, ◌+◌, ◌-◌, ◌≤◌, min, Bool, ltb, List, ◌++◌, length, take, drop, sym, refl, ap, ◌∙◌, append_assoc, subst, arith, length-take-le}
+use Rattle.std.proofs.Common.{◌≡◌, ℕ, ◌+◌, ◌-◌, ◌≤◌, min, Bool, ltb, List, ◌++◌, length, take, drop, sym, refl, ap, ◌∙◌, append_assoc, arith, length-take-le}
 use lib.Seq.{take-paste, length-paste}
 use Rattle.rules.specs.Choice.{◌if◌else◌}
 use Rattle.server.specs.declared.Server.{Server}
@@ -45,9 +45,6 @@ pub record Holds (w : Walk) : Type 0 where
   pub kept : length w.kept ≡ WINDOW
   pub have : w.have ≤ WINDOW
   pub there : stands w.phase w.have w.left w.number
-
-pub stands_in : (w : Walk) (p : Phase) → w.phase ≡ p → Holds w → stands p w.have w.left w.number
-stands_in w p e h = subst (λ (q : Phase). stands q w.have w.left w.number) e h.there
 
 pub rest_is : (w : Walk) (p : Phase) → w.phase ≡ p → (ss : List Server) (ys : List ℕ) → rest w ss ys ≡ rest_in p w ss ys
 unfolding rest

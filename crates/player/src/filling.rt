@@ -65,20 +65,16 @@ fn filled(w: Walk, xs: &[u8]) -> Walk
     let old = w.kept;
     let kept = pasted(old, at, xs, n);
     Walk {
-        phase: w.phase,
-        little: w.little,
-        number: w.number,
-        seconds: w.seconds,
         left: left - k as u32,
         have: at + n,
         kept,
+        ..w
     }
 }
 
 fn reads(w: Walk, phase: Phase, little: bool, number: u64, seconds: u32, left: u32) -> Walk
     ensures { result ≡ reads w phase little number seconds left }
 {
-    let kept = w.kept;
     Walk {
         phase,
         little,
@@ -86,7 +82,7 @@ fn reads(w: Walk, phase: Phase, little: bool, number: u64, seconds: u32, left: u
         seconds,
         left,
         have: 0,
-        kept,
+        ..w
     }
 }
 

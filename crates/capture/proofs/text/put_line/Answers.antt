@@ -11,7 +11,7 @@ returns c =
     let z = a.out.now in
     let w₁ : Row a.at z 20 (decimal a.number) _ _ = record { put = c.put_decimal-a.ensures; short = decimal_short a.number } in
     let w₂ = next 1 (omega arith) (omega arith) w₁ c.put_byte-b.ensures in
-    let w₃ = next 20 (decimal_short a.seconds) (omega arith) w₂ c.put_decimal-c.ensures in
+    let w₃ = next 20 (decimal_short a.seconds) (omega arith) w₂ (rw c.from.ensures at c.put_decimal-c.ensures) in
     let w₄ = next 1 (omega arith) (omega arith) w₃ c.put_byte-d.ensures in
     let w₅ = next 20 (maybe_short a.o.code) (omega arith) w₄ c.put_maybe-e.ensures in
     let w₆ = next 1 (omega arith) (omega arith) w₅ c.put_byte-f.ensures in

@@ -9,4 +9,4 @@ unfolding shown
 returns-in-Refusal c =
     let z = c.args.out.now in
     let two = put-put _ _ _ z (omega arith) c.put_byte-a.ensures c.put_byte-b.ensures in
-    rw c.in-Refusal.is (put-put _ _ _ z (omega arith) two c.put_decimal-in-Refusal.ensures)
+    rw c.in-Refusal.is (put-put _ _ _ z (omega arith) two (rw c.from-in-Refusal.ensures at c.put_decimal-in-Refusal.ensures))
