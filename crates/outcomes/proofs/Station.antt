@@ -3,7 +3,7 @@ use mathlib.Core.Path.{sym, ◌∙◌}
 use mathlib.Core.List.{List}
 use Prim.Native.Nat.{ℕ}
 use Rattle.outcomes.specs.Once.{Answers, Leaves}
-use Rattle.outcomes.proofs.Forms.{answered-one}
+use Rattle.outcomes.proofs.Forms.{answered-one, counted_as-one}
 use Rattle.drive.specs.declared.Drive.{Drive}
 use Rattle.server.specs.declared.Server.{Server}
 use Rattle.station.proofs.by_value.drobulets_next_ballot.Reads as station·by-value·drobulets-next-ballot-contract
@@ -12,6 +12,7 @@ use Rattle.station.proofs.by_value.drobulets_encode.Reads as station·by-value·
 use Rattle.station.proofs.servers.drobulets_server_fresh.Reads as station·servers·drobulets-server-fresh-contract
 use Rattle.station.proofs.servers.commit.Reads as station·servers·commit-contract
 use Rattle.station.proofs.servers.drobulets_server_take.Reads as station·servers·drobulets-server-take-contract
+use Rattle.station.proofs.servers.runs.Reads as station·servers·runs-contract
 use Rattle.station.proofs.servers.drobulets_server_run.Reads as station·servers·drobulets-server-run-contract
 use Rattle.station.proofs.servers.drobulets_server_run_all.Reads as station·servers·drobulets-server-run-all-contract
 use Rattle.station.proofs.servers.drobulets_server_wanted.Reads as station·servers·drobulets-server-wanted-contract
@@ -60,6 +61,12 @@ station·servers·drobulets-server-take·leaves-s κ a x y e e' p q = p.1 ∙ sy
 
 pub station·servers·drobulets-server-take·leaves-output : Leaves {B = List ℕ} (λ κ e. e.1.1.0.now) station·servers·drobulets-server-take-contract.Post
 station·servers·drobulets-server-take·leaves-output κ a x y e e' p q = p.2 ∙ sym q.2
+
+pub station·servers·runs : Answers station·servers·runs-contract.Post
+station·servers·runs κ a x y e e' p q = counted_as-one x y (p.0 ∙ sym q.0)
+
+pub station·servers·runs·leaves-s : Leaves {B = Server} (λ κ e. e.0.now) station·servers·runs-contract.Post
+station·servers·runs·leaves-s κ a x y e e' p q = p.1 ∙ sym q.1
 
 pub station·servers·drobulets-server-run : Answers station·servers·drobulets-server-run-contract.Post
 station·servers·drobulets-server-run κ a x y e e' p q = p.0 ∙ sym q.0

@@ -96,7 +96,7 @@ pub fn drobulets_server_take(s: &mut Server, input: &[u8], output: &mut [u8]) ->
 }
 
 // At most `limit` runs, and how many numbers ran. What runs, and in which order, is known before any number runs: so the server is changed only where a number runs, and not at all where the form is broken.
-fn runs(s: &mut Server, limit: u32) -> Result<u32, Refusal>
+pub fn runs(s: &mut Server, limit: u32) -> Result<u32, Refusal>
     ensures count { counted_as result ≡ counted (ran_up_to limit s.old) }
     ensures server { s.new ≡ (ran_up_to limit s.old).server }
 {
