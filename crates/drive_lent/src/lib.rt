@@ -5,12 +5,17 @@ ghost use Rattle.std.specs.Prelude.{◌≡◌};
 ghost use Rattle.drive.specs.Hear.{hear};
 
 use drive::Drive;
-use rules::refusals::told;
 use wire::Message;
 
 // The lent drive takes what the step makes of it, and the answer is the refusal's number, or 0.
 pub fn hear_lent(d: &mut Drive, m: &Message) -> u32
     ensures { (result ≡ (hear d.old m.now).refusal) × (d.new ≡ (hear d.old m.now).drive) }
 {
-    told(drive_step::hear(d, m))
+    match drive_step::hear(*d, m) {
+        Ok(heard) => {
+            *d = heard;
+            0
+        }
+        Err(refusal) => refusal.number(),
+    }
 }

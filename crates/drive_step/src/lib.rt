@@ -83,7 +83,7 @@ pub fn weigh(d: &Drive, m: &Message) -> Result<Weighed, Refusal>
 }
 
 // The lent drive takes the reply `m`; on a refusal it stays as it was lent.
-pub fn hear(d: &mut Drive, m: &Message) -> Result<(), Refusal>
+pub fn hear_in_place(d: &mut Drive, m: &Message) -> Result<(), Refusal>
     ensures refused { told result ≡ (hear d.old m.now).refusal }
     ensures heard { d.new ≡ (hear d.old m.now).drive }
 {
@@ -99,4 +99,14 @@ pub fn hear(d: &mut Drive, m: &Message) -> Result<(), Refusal>
         }
     }
     Ok(())
+}
+
+// The drive after the reply `m`, by value.
+pub fn hear(d: Drive, m: &Message) -> Result<Drive, Refusal>
+    ensures refused { told result ≡ (hear d m.now).refusal }
+    ensures heard { IfOk result (λ n. n ≡ (hear d m.now).drive) }
+{
+    let mut n = d;
+    hear_in_place(&mut n, m)?;
+    Ok(n)
 }

@@ -10,5 +10,5 @@ use Rattle.graph.proofs.first_ready.Given as goal
 abbrev pub invariant-loop-u : goal.invariant-loop-u
 invariant-loop-u l = any_below (awaited l.rows l.ran l.t) l.u ≡ false
 
-abbrev pub invariant-search : goal.invariant-search
-invariant-search l = (k : ℕ) → k < l.t → ready l.rows l.committed l.ran k ≡ false
+abbrev pub invariant-numbers : goal.invariant-numbers
+invariant-numbers l = (k : ℕ) → k < l.t → ready l.rows l.committed l.ran k ≡ false

@@ -1,8 +1,8 @@
--- `drive_step::hear` meets its contract: what the reply comes to is stored, as Outcomes says. Assumes nothing.
+-- `drive_step::hear_in_place` meets its contract: what the reply comes to is stored, as Outcomes says. Assumes nothing.
 use Rattle.std.proofs.Common.{◌<◌, ◌∙◌, sym, arith}
 use Rattle.drive.proofs.Told.{passed_on}
 use Rattle.drive_step.proofs.Outcomes.{placed, hears-told, hears-refused, hears-taken}
-use Rattle.drive_step.proofs.hear.Goals as goal
+use Rattle.drive_step.proofs.hear_in_place.Goals as goal
 
 pub returns-in_err-turn-clause-refused : goal.returns-in_err-turn-clause-refused
 returns-in_err-turn-clause-refused c = passed_on c.from_residual.result c.in_err-turn.field-0.0 c.from_residual.ensures.1 (c.in_err-turn.ensures.refused ∙ hears-told _ _)
