@@ -1,18 +1,17 @@
 -- However the file is cut into portions, and whatever room there is for lines, the calls print what the definition says of the whole file. Assumes nothing.
-use Rattle.std.proofs.Common.{◌≡◌, ℕ, zero, suc, ◌+◌, ◌-◌, ◌<◌, ◌≤◌, Bool, true, false, not, ◌||◌, eqb, ltb, List, [], ◌∷◌, ◌++◌, length, take, drop, sym, refl, ap, ◌∙◌, true≢false, append_assoc, append-nil, arith, length-drop, take-append-drop, length-take, drop-drop, lt-ltb, eq-eqb, le-leb}
+use Rattle.std.proofs.Common.{◌≡◌, ℕ, zero, suc, ◌-◌, ◌<◌, ◌≤◌, Bool, true, false, not, ◌||◌, eqb, ltb, List, [], ◌∷◌, ◌++◌, length, take, drop, sym, refl, ap, ◌∙◌, true≢false, append_assoc, append-nil, arith, length-drop, take-append-drop, length-take, drop-drop, lt-ltb, eq-eqb, ne_eqb, le-leb}
+use native.Mathlib.Decide.{dec_le}
 use lib.Seq.{drop-append-le}
 use Rattle.rules.specs.Choice.{◌if◌else◌}
 use Rattle.server.specs.declared.Server.{Server}
 use Rattle.capture.specs.Pcap.{HEADER, HEAD, header}
 use Rattle.capture.specs.Text.{LINE, line, bad_header, cut_record}
-use Rattle.player.specs.declared.Phase.{Phase}
-use Rattle.player.specs.declared.Phase.TheVariants.{Opening, Heads, Data, Over}
 use Rattle.player.specs.declared.Walk.{Walk}
 use Rattle.player.specs.Replay.{played, Printed, ended, stopped, ◌then◌, records, opened, replay}
-use Rattle.player.specs.Walking.{WINDOW, begun, seen, reading, going, takes, filled, turned, whole, after_data, Chewed, bite, unchewed, more, chew, chewed, ended_in, ending}
+use Rattle.player.specs.Walking.{WINDOW, OPENING, HEADS, DATA, OVER, begun, seen, going, takes, filled, turned, whole, after_data, Chewed, bite, unchewed, more, chew, chewed, ending}
 use Rattle.player.specs.Portions.{Stage, at_first, Call, call, calls, Finished, no_more, nothing_read, printed}
 use Rattle.player.proofs.RecordsAre.{records_is}
-use Rattle.player.proofs.Resting.{rest_in, rest, Holds, stands, filled-holds, filled-rest}
+use Rattle.player.proofs.Resting.{rest, Holds, rest-opens, rest-heads, rest-data, rest_over, filled-holds, filled-rest, Phase, opens, heading, in_data, over, phase_of}
 use Rattle.player.proofs.Rests.{Rests, Turned, a-record, a-rest, turned_is, data_rests}
 use Rattle.player.proofs.Turning.{seen-length, data-whole, turned-rest}
 
@@ -32,9 +31,9 @@ module _ (w : Walk) (ss : List Server) (xs : List ℕ) (h : Holds w) where
   unfolding bite
   bite-rest e = rw e
 
-  is_whole : v.phase ≡ Data → v.left ≡ 0 → whole v ≡ true
+  is_whole : v.phase ≡ DATA → v.left ≡ 0 → whole v ≡ true
   unfolding whole
-  is_whole p e = rw (p, eq-eqb v.left 0 e)
+  is_whole p e = rw (eq-eqb v.phase DATA p, eq-eqb v.left 0 e)
 
   -- the state after a bite is one between two bites
   pub bite-rests : Rests (bite w ss xs).walk
@@ -151,7 +150,7 @@ calls_say (k ∷ ks) s r =
 
 begun-rests : Rests begun
 unfolding begun
-begun-rests = record { holds = record { kept = refl; have = omega arith; there = (refl, refl) }; comes = λ k. omega arith }
+begun-rests = record { holds = record { kept = refl; have = omega arith; opening = λ e. (refl, refl); heads = λ e. absurd (omega (arith, e)) }; comes = λ k. omega arith }
 
 first_rests : (file : List ℕ) → Rests (at_first file).walk
 unfolding at_first
@@ -166,8 +165,8 @@ unfolding header
 header_short xs k = rw (lt-ltb (length xs) HEADER k)
 
 ending-rests : (w : Walk) (ss : List Server) → Rests w → rest w ss [] ≡ ending w
-unfolding rest ending opened
-ending-rests w ss r = by-phase w.phase refl h.there
+unfolding ending opened
+ending-rests w ss r = go (phase_of w)
   where
     h : Holds w
     h = r.holds
@@ -178,37 +177,36 @@ ending-rests w ss r = by-phase w.phase refl h.there
     n : length (seen w ++ []) ≡ w.have
     n = ap length (append-nil (seen w)) ∙ l
 
-    opening : 1 ≤ w.left → w.have + w.left ≡ HEADER → opened ss (seen w ++ []) ≡ stopped bad_header
-    opening k e = rw (header_short (take HEADER (seen w ++ [])) (omega (arith, length-take HEADER (seen w ++ []), n, e, k)))
+    opening : w.phase ≡ OPENING → opened ss (seen w ++ []) ≡ stopped bad_header
+    opening p = rw (header_short (take HEADER (seen w ++ [])) (omega (arith, length-take HEADER (seen w ++ []), n, (h.opening p).0, r.comes (omega (arith, p)))))
 
-    heads : 1 ≤ w.left → w.have + w.left ≡ HEAD → records w.little w.number ss (seen w ++ []) ≡ (ended if eqb w.have 0 else stopped cut_record)
-    heads k e =
+    heads : w.phase ≡ HEADS → records w.little w.number ss (seen w ++ []) ≡ (ended if eqb w.have 0 else stopped cut_record)
+    heads p =
         records_is w.little w.number ss (seen w ++ [])
-        ∙ rw (n, lt-ltb w.have HEAD (omega (arith, e, k)))
+        ∙ rw (n, lt-ltb w.have HEAD (omega (arith, h.heads p, r.comes (omega (arith, p)))))
 
-    by-phase : (p : Phase) → w.phase ≡ p → stands p w.have w.left w.number → rest_in p w ss [] ≡ ended_in p w.have
-    by-phase Opening p e = opening (r.comes (ap reading p)) e.0
-    by-phase Heads p e = heads (r.comes (ap reading p)) e
-    by-phase Data p e = rw (lt-ltb 0 w.left (r.comes (ap reading p)))
-    by-phase Over p e = refl
+    go : Phase w → rest w ss [] ≡ ending w
+    go (opens p) = rest-opens w ss [] p ∙ opening p ∙ rw (eq-eqb w.phase OPENING p)
+    go (heading p) = rest-heads w ss [] p ∙ heads p ∙ rw p
+    go (in_data p) = rest-data w ss [] p ∙ rw (p, lt-ltb 0 w.left (r.comes (omega (arith, p))))
+    go (over a b c) = rest_over w ss [] a b c ∙ rw (ne_eqb w.phase OPENING a, le-leb OVER w.phase (omega (arith, a, b, c)))
 
 -- nothing is read any more: the header was bad
-over-rests : (w : Walk) → Rests w → going w ≡ false → w.phase ≡ Over
+over-rests : (w : Walk) → Rests w → going w ≡ false → OVER ≤ w.phase
 unfolding going
-over-rests w r e = go w.phase refl
+over-rests w r e = go (dec_le OVER w.phase)
   where
-    goes : reading w.phase ≡ true → w.phase ≡ Over
-    goes p = absurd (true≢false (rw (p, lt-ltb 0 w.left (r.comes p), le-leb w.have WINDOW r.holds.have) at e))
+    go : Dec (OVER ≤ w.phase) → OVER ≤ w.phase
+    go (yes k) = k
+    go (no k) =
+        let p : w.phase < OVER = omega (arith, k) in
+        absurd (true≢false (rw (lt-ltb w.phase OVER p, lt-ltb 0 w.left (r.comes p), le-leb w.have WINDOW r.holds.have) at e))
 
-    go : (p : Phase) → w.phase ≡ p → w.phase ≡ Over
-    go Opening p = goes (ap reading p)
-    go Heads p = goes (ap reading p)
-    go Data p = goes (ap reading p)
-    go Over p = p
-
-over-ends : (w : Walk) (ss : List Server) (ys : List ℕ) → w.phase ≡ Over → rest w ss ys ≡ ending w
-unfolding rest ending
-over-ends w ss ys p = ap (λ (q : Phase). rest_in q w ss ys) p ∙ sym (ap (λ (q : Phase). ended_in q w.have) p)
+over-ends : (w : Walk) (ss : List Server) (ys : List ℕ) → OVER ≤ w.phase → rest w ss ys ≡ ending w
+unfolding ending
+over-ends w ss ys k =
+    rest_over w ss ys (λ e. absurd (omega (arith, k, e))) (λ e. absurd (omega (arith, k, e))) (λ e. absurd (omega (arith, k, e)))
+    ∙ rw (ne_eqb w.phase OPENING (λ e. absurd (omega (arith, k, e))), le-leb OVER w.phase k)
 
 pub any_portions : (file : List ℕ) (ks : List Call) → Finished (calls ks (at_first file)) → printed (calls ks (at_first file)) ≡ replay file
 unfolding printed

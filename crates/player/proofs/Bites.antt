@@ -24,7 +24,7 @@ use Rattle.player.specs.declared.Walk.{Walk}
 use Rattle.player.specs.declared.Look.{Look}
 use Rattle.player.specs.declared.Play.{Play}
 use Rattle.player.specs.Replay.{unread, read, room, answered, Played, played}
-use Rattle.player.specs.Walking.{WINDOW, seen, reading, going, takes, filled, turned, whole, after_data, looked, look, shown_of, answer_shown, Chewed, bite, unchewed, more, chew, chewed, played_of}
+use Rattle.player.specs.Walking.{WINDOW, OVER, seen, going, takes, filled, turned, whole, after_data, looked, look, shown_of, answer_shown, Chewed, bite, unchewed, more, chew, chewed, played_of}
 
 -- ---- turns
 
@@ -40,12 +40,12 @@ both_are false b c e = absurd (true≢false (sym e))
 -- a walk that goes on lacks a byte
 going_left : (w : Walk) → going w ≡ true → 1 ≤ w.left
 unfolding going
-going_left w e = ltb-true 0 w.left (both_are (reading w.phase) (ltb 0 w.left) (leb w.have WINDOW) e).0
+going_left w e = ltb-true 0 w.left (both_are (ltb w.phase OVER) (ltb 0 w.left) (leb w.have WINDOW) e).0
 
 -- and has room in the window
 pub going_has : (w : Walk) → going w ≡ true → w.have ≤ WINDOW
 unfolding going
-going_has w e = leb-true w.have WINDOW (both_are (reading w.phase) (ltb 0 w.left) (leb w.have WINDOW) e).1
+going_has w e = leb-true w.have WINDOW (both_are (ltb w.phase OVER) (ltb 0 w.left) (leb w.have WINDOW) e).1
 
 module _ (w : Walk) (ss : List Server) (xs : List ℕ) where
   abbrev v : Walk

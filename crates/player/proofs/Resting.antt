@@ -1,15 +1,14 @@
 -- What a walk that stands somewhere prints of the bytes to come, and that keeping bytes, turning to what follows, and a record's line keep it. Assumes nothing.
-use Rattle.std.proofs.Common.{◌≡◌, ℕ, ◌+◌, ◌-◌, ◌≤◌, min, Bool, ltb, List, ◌++◌, length, take, drop, sym, refl, ap, ◌∙◌, append_assoc, arith, length-take-le}
+use Rattle.std.proofs.Common.{◌≡◌, ℕ, ◌+◌, ◌-◌, ◌≤◌, min, Bool, eqb, ltb, List, ◌++◌, length, take, drop, sym, ap, ◌∙◌, append_assoc, arith, length-take-le, ne_eqb}
+use native.Mathlib.Decide.{ℕ_discrete}
 use lib.Seq.{take-paste, length-paste}
 use Rattle.rules.specs.Choice.{◌if◌else◌}
 use Rattle.server.specs.declared.Server.{Server}
 use Rattle.capture.specs.Pcap.{HEADER, HEAD}
 use Rattle.capture.specs.Text.{line, bad_header, cut_record}
-use Rattle.player.specs.declared.Phase.{Phase}
-use Rattle.player.specs.declared.Phase.TheVariants.{Opening, Heads, Data, Over}
 use Rattle.player.specs.declared.Walk.{Walk}
 use Rattle.player.specs.Replay.{Played, played, Printed, stopped, ◌then◌, next, records, opened}
-use Rattle.player.specs.Walking.{WINDOW, seen, takes, keeps, filled}
+use Rattle.player.specs.Walking.{WINDOW, OPENING, HEADS, DATA, seen, takes, keeps, filled}
 use Rattle.player.proofs.Lists.{portion-seam, portion-drop, portion-short, portion-window}
 
 -- a record's line, and the records after it
@@ -23,32 +22,51 @@ data_by w ss short xs ys = stopped cut_record if short else lined w (played ss x
 abbrev pub data_rest : Walk → List Server → List ℕ → Printed
 data_rest w ss ys = data_by w ss (ltb (length ys) w.left) (take WINDOW (seen w ++ take w.left ys)) (drop w.left ys)
 
--- by what is read
-abbrev pub rest_in : Phase → Walk → List Server → (ys : List ℕ) → Printed
-rest_in Opening w ss ys = opened ss (seen w ++ ys)
-rest_in Heads w ss ys = records w.little w.number ss (seen w ++ ys)
-rest_in Data w ss ys = data_rest w ss ys
-rest_in Over w ss ys = stopped bad_header
-
 unfoldable pub rest : Walk → List Server → (ys : List ℕ) → Printed
-rest w ss ys = rest_in w.phase w ss ys
-
--- of a header or a head, the bytes kept and those to come are all of it
-abbrev pub stands : Phase → (have left number : ℕ) → Type 0
-stands Opening h l n = (h + l ≡ HEADER) × (n ≡ 1)
-stands Heads h l n = h + l ≡ HEAD
-stands Data h l n = Unit {0}
-stands Over h l n = Unit {0}
+rest w ss ys =
+    opened ss (seen w ++ ys) if eqb w.phase OPENING
+    else records w.little w.number ss (seen w ++ ys) if eqb w.phase HEADS
+    else data_rest w ss ys if eqb w.phase DATA
+    else stopped bad_header
 
 -- what is true of every walk that began at the front of a file
 pub record Holds (w : Walk) : Type 0 where
   pub kept : length w.kept ≡ WINDOW
   pub have : w.have ≤ WINDOW
-  pub there : stands w.phase w.have w.left w.number
+  pub opening : w.phase ≡ OPENING → (w.have + w.left ≡ HEADER) × (w.number ≡ 1)
+  pub heads : w.phase ≡ HEADS → w.have + w.left ≡ HEAD
 
-pub rest_is : (w : Walk) (p : Phase) → w.phase ≡ p → (ss : List Server) (ys : List ℕ) → rest w ss ys ≡ rest_in p w ss ys
-unfolding rest
-rest_is w p e ss ys = ap (λ (q : Phase). rest_in q w ss ys) e
+pub data Phase (w : Walk) : Type 0 where
+  opens : w.phase ≡ OPENING → Phase w
+  heading : w.phase ≡ HEADS → Phase w
+  in_data : w.phase ≡ DATA → Phase w
+  over : (w.phase ≡ OPENING → ⊥) → (w.phase ≡ HEADS → ⊥) → (w.phase ≡ DATA → ⊥) → Phase w
+
+pub phase_of : (w : Walk) → Phase w
+phase_of w = go (ℕ_discrete w.phase OPENING) (ℕ_discrete w.phase HEADS) (ℕ_discrete w.phase DATA)
+  where
+    go : Dec (w.phase ≡ OPENING) → Dec (w.phase ≡ HEADS) → Dec (w.phase ≡ DATA) → Phase w
+    go (yes e) b c = opens e
+    go (no a) (yes e) c = heading e
+    go (no a) (no b) (yes e) = in_data e
+    go (no a) (no b) (no c) = over a b c
+
+module _ (w : Walk) (ss : List Server) (ys : List ℕ) where
+  pub rest-opens : w.phase ≡ OPENING → rest w ss ys ≡ opened ss (seen w ++ ys)
+  unfolding rest
+  rest-opens e = rw e
+
+  pub rest-heads : w.phase ≡ HEADS → rest w ss ys ≡ records w.little w.number ss (seen w ++ ys)
+  unfolding rest
+  rest-heads e = rw e
+
+  pub rest-data : w.phase ≡ DATA → rest w ss ys ≡ data_rest w ss ys
+  unfolding rest
+  rest-data e = rw e
+
+  pub rest_over : (w.phase ≡ OPENING → ⊥) → (w.phase ≡ HEADS → ⊥) → (w.phase ≡ DATA → ⊥) → rest w ss ys ≡ stopped bad_header
+  unfolding rest
+  rest_over a b c = rw (ne_eqb w.phase OPENING a, ne_eqb w.phase HEADS b, ne_eqb w.phase DATA c)
 
 -- ---- bytes are kept
 
@@ -90,14 +108,9 @@ module _ (w : Walk) (xs : List ℕ) (h : Holds w) where
       record {
         kept = length-paste w.kept w.have xs (keeps w xs) (omega (arith, keeps-fit, h.kept)) (omega (arith, k-le, keeps-le)) ∙ h.kept;
         have = keeps-fit;
-        there = go w.phase h.there;
+        opening = λ e. (omega (arith, (h.opening e).0), (h.opening e).1);
+        heads = λ e. omega (arith, h.heads e);
       }
-    where
-      go : (p : Phase) → stands p w.have w.left w.number → stands p (w.have + keeps w xs) (w.left - takes w xs) w.number
-      go Opening e = (omega (arith, e.0), e.1)
-      go Heads e = omega (arith, e)
-      go Data e = tt
-      go Over e = tt
 
   window-filled : (ys : List ℕ) → take WINDOW (seen w ++ take w.left (xs ++ ys)) ≡ take WINDOW (seen (filled w xs) ++ take (w.left - takes w xs) (drop (takes w xs) xs ++ ys))
   unfolding takes keeps
@@ -112,14 +125,14 @@ module _ (w : Walk) (xs : List ℕ) (h : Holds w) where
   data-filled ss ys = λ i. data_by w ss (portion-short w.left xs ys i) (window-filled ys i) (portion-drop w.left xs ys i)
 
   pub filled-rest : (ss : List Server) (ys : List ℕ) → rest w ss (xs ++ ys) ≡ rest (filled w xs) ss (drop (takes w xs) xs ++ ys)
-  unfolding rest filled
-  filled-rest ss ys = by-phase w.phase h.there
+  unfolding filled
+  filled-rest ss ys = go (phase_of w)
     where
       zs : List ℕ
       zs = drop (takes w xs) xs ++ ys
 
-      by-phase : (p : Phase) → stands p w.have w.left w.number → rest_in p w ss (xs ++ ys) ≡ rest_in p (filled w xs) ss zs
-      by-phase Opening e = ap (opened ss) (seen_all (omega (arith, e.0)) ys)
-      by-phase Heads e = ap (records w.little w.number ss) (seen_all (omega (arith, e)) ys)
-      by-phase Data e = data-filled ss ys
-      by-phase Over e = refl
+      go : Phase w → rest w ss (xs ++ ys) ≡ rest (filled w xs) ss zs
+      go (opens e) = rest-opens w ss (xs ++ ys) e ∙ ap (opened ss) (seen_all (omega (arith, (h.opening e).0)) ys) ∙ sym (rest-opens (filled w xs) ss zs e)
+      go (heading e) = rest-heads w ss (xs ++ ys) e ∙ ap (records w.little w.number ss) (seen_all (omega (arith, h.heads e)) ys) ∙ sym (rest-heads (filled w xs) ss zs e)
+      go (in_data e) = rest-data w ss (xs ++ ys) e ∙ data-filled ss ys ∙ sym (rest-data (filled w xs) ss zs e)
+      go (over a b c) = rest_over w ss (xs ++ ys) a b c ∙ sym (rest_over (filled w xs) ss zs a b c)

@@ -1,5 +1,5 @@
 -- Where a header, a head or a record's data is whole, what the walk turns to prints the same of the bytes to come. Assumes nothing.
-use Rattle.std.proofs.Common.{◌≡◌, ℕ, ◌+◌, ◌≤◌, Bool, true, false, ltb, List, ◌++◌, length, take, drop, sym, refl, ap, ◌∙◌, append-nil, arith, length-append, length-take-le, take_all, drop-drop, take_at, drop_at, le-ltb, lt-ltb, ne_eqb}
+use Rattle.std.proofs.Common.{◌≡◌, ℕ, ◌+◌, ◌≤◌, Bool, true, false, ltb, List, ◌++◌, length, take, drop, sym, refl, ap, ◌∙◌, append-nil, arith, length-append, length-take-le, take_all, drop-drop, take_at, drop_at, le-ltb, lt-ltb, eq-eqb, ne_eqb}
 use native.Mathlib.Decide.{dec_le}
 use Rattle.rules.specs.Choice.{◌if◌else◌}
 use Rattle.server.specs.declared.Server.{Server}
@@ -7,14 +7,12 @@ use Rattle.capture.specs.Pcap.{HEADER, HEAD, header, head}
 use Rattle.capture.specs.Text.{line, bad_header, cut_record}
 use Rattle.capture.specs.declared.Header.{Header}
 use Rattle.capture.specs.declared.Head.{Head}
-use Rattle.player.specs.declared.Phase.{Phase}
-use Rattle.player.specs.declared.Phase.TheVariants.{Opening, Heads, Data, Over}
 use Rattle.player.specs.declared.Walk.{Walk}
 use Rattle.player.specs.Replay.{Played, played, Printed, stopped, ◌then◌, next, records, opened}
-use Rattle.player.specs.Walking.{WINDOW, seen, reads, after_header, after_head, turn, turned, after_data}
+use Rattle.player.specs.Walking.{WINDOW, OPENING, HEADS, DATA, OVER, seen, reads, after_header, after_head, turned, after_data}
 use Rattle.player.proofs.RecordsAre.{records_is}
 use Rattle.player.proofs.WindowPlays.{window-plays}
-use Rattle.player.proofs.Resting.{lined, data_by, rest_in, rest, stands, Holds, rest_is}
+use Rattle.player.proofs.Resting.{lined, data_by, rest, Holds, rest-opens, rest-heads, rest-data, Phase, opens, heading, in_data, over, phase_of}
 
 ltb-add : (k a b : ℕ) → ltb (k + a) (k + b) ≡ ltb a b
 ltb-add k a b = go (dec_le b a)
@@ -28,9 +26,17 @@ module _ (w : Walk) where
   unfolding turned
   turned_more k = rw (lt-ltb 0 w.left k)
 
-  pub turned_whole : w.left ≡ 0 → turned w ≡ turn w.phase w
+  pub turned-header : w.left ≡ 0 → w.phase ≡ OPENING → turned w ≡ after_header w
   unfolding turned
-  turned_whole e = rw (le-ltb 0 w.left (omega (arith, e)))
+  turned-header e p = rw (le-ltb 0 w.left (omega (arith, e)), eq-eqb w.phase OPENING p)
+
+  pub turned-head : w.left ≡ 0 → w.phase ≡ HEADS → turned w ≡ after_head w
+  unfolding turned
+  turned-head e p = rw (le-ltb 0 w.left (omega (arith, e)), ne_eqb w.phase OPENING (λ q. absurd (omega (arith, p, q))), eq-eqb w.phase HEADS p)
+
+  pub turned_none : w.left ≡ 0 → (w.phase ≡ OPENING → ⊥) → (w.phase ≡ HEADS → ⊥) → turned w ≡ w
+  unfolding turned
+  turned_none e a b = rw (le-ltb 0 w.left (omega (arith, e)), ne_eqb w.phase OPENING a, ne_eqb w.phase HEADS b)
 
 module _ (w : Walk) (h : Holds w) where
   pub seen-length : length (seen w) ≡ w.have
@@ -49,7 +55,7 @@ module _ (w : Walk) (h : Holds w) where
         r : Header
         r = header (take HEADER w.kept)
 
-        go : (b : Bool) → (records r.little 1 ss ys if b else stopped bad_header) ≡ rest (reads w Heads r.little w.number 0 HEAD if b else reads w Over false w.number 0 0) ss ys
+        go : (b : Bool) → (records r.little 1 ss ys if b else stopped bad_header) ≡ rest (reads w HEADS r.little w.number 0 HEAD if b else reads w OVER false w.number 0 0) ss ys
         go true = ap (λ (k : ℕ). records r.little k ss ys) (sym n)
         go false = refl
 
@@ -95,10 +101,10 @@ module _ (w : Walk) (h : Holds w) where
 
     -- ---- a record's data
 
-    pub data-whole : w.phase ≡ Data → w.left ≡ 0 → rest w ss ys ≡ line w.number w.seconds (played ss (seen w)).told then rest (after_data w) (played ss (seen w)).servers ys
+    pub data-whole : w.phase ≡ DATA → w.left ≡ 0 → rest w ss ys ≡ line w.number w.seconds (played ss (seen w)).told then rest (after_data w) (played ss (seen w)).servers ys
     unfolding after_data rest
     data-whole p e =
-        ap (λ (q : Phase). rest_in q w ss ys) p
+        rest-data w ss ys p
         ∙ (λ i. data_by w ss (ltb (length ys) (e i)) (take WINDOW (seen w ++ take (e i) ys)) (drop (e i) ys))
         ∙ (λ i. data_by w ss (le-ltb (length ys) 0 (omega arith) i) (take WINDOW (append-nil (seen w) i)) ys)
         ∙ ap (λ (xs : List ℕ). lined w (played ss xs) ys) (take_all WINDOW (seen w) (omega (arith, seen-length, h.have)))
@@ -108,12 +114,12 @@ module _ (w : Walk) (h : Holds w) where
     pub turned-rest : rest w ss ys ≡ rest (turned w) ss ys
     turned-rest = go (dec_le 1 w.left)
       where
-        by-phase : w.left ≡ 0 → (p : Phase) → w.phase ≡ p → stands p w.have w.left w.number → rest w ss ys ≡ rest (turn p w) ss ys
-        by-phase e Opening p s = rest_is w Opening p ss ys ∙ header-whole (omega (arith, s.0, e)) s.1
-        by-phase e Heads p s = rest_is w Heads p ss ys ∙ head-whole (omega (arith, s, e))
-        by-phase e Data p s = refl
-        by-phase e Over p s = refl
+        by-phase : w.left ≡ 0 → Phase w → rest w ss ys ≡ rest (turned w) ss ys
+        by-phase e (opens p) = rest-opens w ss ys p ∙ header-whole (omega (arith, (h.opening p).0, e)) (h.opening p).1 ∙ ap (λ (v : Walk). rest v ss ys) (sym (turned-header w e p))
+        by-phase e (heading p) = rest-heads w ss ys p ∙ head-whole (omega (arith, h.heads p, e)) ∙ ap (λ (v : Walk). rest v ss ys) (sym (turned-head w e p))
+        by-phase e (in_data p) = ap (λ (v : Walk). rest v ss ys) (sym (turned_none w e (λ q. absurd (omega (arith, p, q))) (λ q. absurd (omega (arith, p, q)))))
+        by-phase e (over a b c) = ap (λ (v : Walk). rest v ss ys) (sym (turned_none w e a b))
 
         go : Dec (1 ≤ w.left) → rest w ss ys ≡ rest (turned w) ss ys
         go (yes k) = ap (λ (v : Walk). rest v ss ys) (sym (turned_more w k))
-        go (no k) = let e : w.left ≡ 0 = omega (arith, k) in by-phase e w.phase refl h.there ∙ ap (λ (v : Walk). rest v ss ys) (sym (turned_whole w e))
+        go (no k) = by-phase (omega (arith, k)) (phase_of w)

@@ -13,8 +13,6 @@ use Rattle.capture.specs.declared.Shown.TheVariants.{Dash, Code, Refusal}
 use Rattle.capture.specs.declared.Told.{Told}
 use Rattle.capture.specs.Pcap.{HEADER, HEAD, header, head}
 use Rattle.capture.specs.Text.{LINE, line, bad_header, cut_record}
-use Rattle.player.specs.declared.Phase.{Phase}
-use Rattle.player.specs.declared.Phase.TheVariants.{Opening, Heads, Data, Over}
 use Rattle.player.specs.declared.Walk.{Walk}
 use Rattle.player.specs.declared.Look.{Look}
 use Rattle.player.specs.declared.Play.{Play}
@@ -24,30 +22,29 @@ use Rattle.player.specs.Replay.{unread, read, played, Printed, ended, stopped, n
 abbrev pub WINDOW : ℕ
 WINDOW = 181
 
+-- what is read: the header, a record's head, its data; or nothing more, since the header is bad
+abbrev pub OPENING : ℕ
+OPENING = 0
+
+abbrev pub HEADS : ℕ
+HEADS = 1
+
+abbrev pub DATA : ℕ
+DATA = 2
+
+abbrev pub OVER : ℕ
+OVER = 3
+
 unfoldable pub begun : Walk
-begun = record { phase = Opening; little = false; number = 1; seconds = 0; left = HEADER; have = 0; kept = replicate WINDOW 0 }
+begun = record { phase = OPENING; little = false; number = 1; seconds = 0; left = HEADER; have = 0; kept = replicate WINDOW 0 }
 
 -- the bytes kept
 abbrev pub seen : Walk → List ℕ
 seen w = take w.have w.kept
 
--- something is read: the header was not bad
-abbrev pub reading : Phase → Bool
-reading Opening = true
-reading Heads = true
-reading Data = true
-reading Over = false
-
--- a record's data is
-abbrev pub in_data : Phase → Bool
-in_data Opening = false
-in_data Heads = false
-in_data Data = true
-in_data Over = false
-
 -- there is more to read
 unfoldable pub going : Walk → Bool
-going w = reading w.phase && nat_lt 0 w.left && nat_le w.have WINDOW
+going w = nat_lt w.phase OVER && nat_lt 0 w.left && nat_le w.have WINDOW
 
 -- ---- one bite: as many of the bytes xs as what is read still lacks
 
@@ -70,34 +67,31 @@ filled w xs =
       kept = paste w.kept w.have xs (keeps w xs);
     }
 
-abbrev pub reads : Walk → (phase : Phase) → (little : Bool) → (number seconds left : ℕ) → Walk
+abbrev pub reads : Walk → (phase : ℕ) → (little : Bool) → (number seconds left : ℕ) → Walk
 reads w phase little number seconds left = record { phase = phase; little = little; number = number; seconds = seconds; left = left; have = 0; kept = w.kept }
 
 -- the header is whole, or a record's head is
 unfoldable pub after_header : Walk → Walk
 after_header w =
     let h = header (take HEADER w.kept) in
-    reads w Heads h.little w.number 0 HEAD if h.good else reads w Over false w.number 0 0
+    reads w HEADS h.little w.number 0 HEAD if h.good else reads w OVER false w.number 0 0
 
 unfoldable pub after_head : Walk → Walk
-after_head w = let h = head w.little (take HEAD w.kept) in reads w Data w.little w.number h.seconds h.captured
-
--- what follows, by what was read
-abbrev pub turn : Phase → Walk → Walk
-turn Opening w = after_header w
-turn Heads w = after_head w
-turn Data w = w
-turn Over w = w
+after_head w = let h = head w.little (take HEAD w.kept) in reads w DATA w.little w.number h.seconds h.captured
 
 unfoldable pub turned : Walk → Walk
-turned w = w if nat_lt 0 w.left else turn w.phase w
+turned w =
+    w if nat_lt 0 w.left
+    else after_header w if w.phase == OPENING
+    else after_head w if w.phase == HEADS
+    else w
 
 -- a record's data is whole: its line is printed, and then the next head is read
 unfoldable pub whole : Walk → Bool
-whole w = in_data w.phase && w.left == 0
+whole w = w.phase == DATA && w.left == 0
 
 unfoldable pub after_data : Walk → Walk
-after_data w = reads w Heads w.little (next w.number) 0 HEAD
+after_data w = reads w HEADS w.little (next w.number) 0 HEAD
 
 -- what the data says by itself; where it is for a server, the answer is still to come
 abbrev pub looked : Told → Option ℕ → Look
@@ -156,12 +150,8 @@ played_of c = record { walk = c.walk; servers = c.servers; taken = c.taken; made
 
 -- ---- the file has no more bytes
 
--- by what is read, and how many bytes of it are kept
-abbrev pub ended_in : Phase → (have : ℕ) → Printed
-ended_in Opening have = stopped bad_header
-ended_in Heads have = ended if have == 0 else stopped cut_record
-ended_in Data have = stopped cut_record
-ended_in Over have = stopped bad_header
-
 unfoldable pub ending : Walk → Printed
-ending w = ended_in w.phase w.have
+ending w =
+    stopped bad_header if w.phase == OPENING || nat_le OVER w.phase
+    else ended if w.phase == HEADS && w.have == 0
+    else stopped cut_record

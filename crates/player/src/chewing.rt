@@ -8,7 +8,7 @@ ghost use Rattle.player.specs.Walking.{begun, chewed, ending, played_of};
 
 use crate::filling::{after_data, begun, bitten, going, takes, whole};
 use crate::looking::{answered, look};
-use crate::{Phase, Play, Walk};
+use crate::{Play, Walk};
 use capture::text::{LINE, put_line};
 use server::{Log, Server};
 use server_run::first::{fresh_record, no_counters};
@@ -85,17 +85,18 @@ pub fn chew(p: Play, portion: &[u8], out: &mut [u8]) -> Play
 }
 
 // The file has no more bytes: the line that ends the walk, if one does, at the front of the output. Answers how many bytes it has.
-#[tactic(auto, unfolding(crate::specs::Walking::ending, capture::specs::Text::bad_header, capture::specs::Text::cut_record, xdr::specs::Over::over))]
 pub fn finish(w: Walk, out: &mut [u8]) -> usize
     requires { LINE ≤ length out.old }
     ensures long { result ≡ length (ending w).text }
     ensures bytes { out.new ≡ over (ending w).text out.old }
 {
-    match w.phase {
-        Phase::Opening | Phase::Over => put_text(out, b"bad header\n"),
-        Phase::Heads if w.have == 0 => 0,
-        Phase::Heads | Phase::Data => put_text(out, b"cut record\n"),
+    if w.phase == 0 || 3 <= w.phase {
+        return put_text(out, b"bad header\n");
     }
+    if w.phase == 1 && w.have == 0 {
+        return 0;
+    }
+    put_text(out, b"cut record\n")
 }
 
 // The text is written at the front of the output. Answers how many bytes it has.

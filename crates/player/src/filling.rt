@@ -4,7 +4,7 @@ ghost use Rattle.std.proofs.Math.Seq.{paste};
 ghost use Rattle.player.specs.Replay.{next};
 ghost use Rattle.player.specs.Walking.{WINDOW, begun, going, takes, keeps, filled, reads, after_header, after_head, turned, whole, after_data};
 
-use crate::{Phase, Walk};
+use crate::{DATA, HEADS, OPENING, OVER, Walk};
 use capture::pcap::{HEAD, HEADER};
 
 // A destination, the longest message, and a byte more.
@@ -16,7 +16,7 @@ pub fn begun() -> Walk
     ensures { result ≡ begun }
 {
     Walk {
-        phase: Phase::Opening,
+        phase: OPENING,
         little: false,
         number: 1,
         seconds: 0,
@@ -31,7 +31,7 @@ pub fn begun() -> Walk
 pub fn going(w: Walk) -> bool
     ensures { result ≡ going w }
 {
-    w.phase != Phase::Over && 0 < w.left && w.have <= WINDOW
+    w.phase < OVER && 0 < w.left && w.have <= WINDOW
 }
 
 // How many of the bytes are of what is read.
@@ -72,7 +72,7 @@ fn filled(w: Walk, xs: &[u8]) -> Walk
     }
 }
 
-fn reads(w: Walk, phase: Phase, little: bool, number: u64, seconds: u32, left: u32) -> Walk
+fn reads(w: Walk, phase: u32, little: bool, number: u64, seconds: u32, left: u32) -> Walk
     ensures { result ≡ reads w phase little number seconds left }
 {
     Walk {
@@ -94,9 +94,9 @@ fn after_header(w: Walk) -> Walk
     let kept = w.kept;
     let h = capture::pcap::header(&kept[..HEADER]);
     if h.good {
-        reads(w, Phase::Heads, h.little, w.number, 0, 16)
+        reads(w, HEADS, h.little, w.number, 0, 16)
     } else {
-        reads(w, Phase::Over, false, w.number, 0, 0)
+        reads(w, OVER, false, w.number, 0, 0)
     }
 }
 
@@ -107,7 +107,7 @@ fn after_head(w: Walk) -> Walk
 {
     let kept = w.kept;
     let h = capture::pcap::head(w.little, &kept[..HEAD]);
-    reads(w, Phase::Data, w.little, w.number, h.seconds, h.captured)
+    reads(w, DATA, w.little, w.number, h.seconds, h.captured)
 }
 
 #[tactic(auto, unfolding(crate::specs::Walking::turned))]
@@ -118,9 +118,9 @@ fn turned(w: Walk) -> Walk
         return w;
     }
     match w.phase {
-        Phase::Opening => after_header(w),
-        Phase::Heads => after_head(w),
-        Phase::Data | Phase::Over => w,
+        OPENING => after_header(w),
+        HEADS => after_head(w),
+        _ => w,
     }
 }
 
@@ -138,7 +138,7 @@ pub fn bitten(w: Walk, xs: &[u8]) -> Walk
 pub fn whole(w: Walk) -> bool
     ensures { result ≡ whole w }
 {
-    w.phase == Phase::Data && w.left == 0
+    w.phase == DATA && w.left == 0
 }
 
 // The next record's head is read.
@@ -147,5 +147,5 @@ pub fn after_data(w: Walk) -> Walk
     ensures { result ≡ after_data w }
 {
     let number = std::num::wrapping_add_u64(w.number, 1);
-    reads(w, Phase::Heads, w.little, number, 0, 16)
+    reads(w, HEADS, w.little, number, 0, 16)
 }

@@ -9,18 +9,18 @@ mod looking; // looking.rt: what a record's data says
 pub mod chewing; // chewing.rt: a portion of the file is played
 
 // What is read: the header, a record's head, its data; or nothing more, since the header is bad.
-#[derive(Clone, Copy, Debug, PartialEq, Eq)]
-pub enum Phase {
-    Opening,
-    Heads,
-    Data,
-    Over,
-}
+const OPENING: u32 = 0;
+
+const HEADS: u32 = 1;
+
+const DATA: u32 = 2;
+
+const OVER: u32 = 3;
 
 // Where the walk stands: what is read, the file's byte order, the number of the next line, the record's seconds, how many bytes are still to come, and those kept.
 #[derive(Clone, Copy)]
 pub struct Walk {
-    pub phase: Phase,
+    pub phase: u32,
     pub little: bool,
     pub number: u64,
     pub seconds: u32,
