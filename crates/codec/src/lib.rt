@@ -29,23 +29,15 @@ pub fn decode(bytes: &[u8]) -> Decoded
     decoding::decode(bytes)
 }
 
-// The message's bytes at the front of the output, built in a cleared buffer and then copied; or a refusal, and the output as it was.
-pub fn encode(message: Message, out: &mut [u8]) -> Encoded
-    ensures { (result ≡ answer (encode message out.old)) × (out.new ≡ (encode message out.old).buffer) }
-{
-    Encoded::from(written(&message, out))
-}
-
-// The same, of a message that is lent.
-pub fn encode_lent(message: &Message, out: &mut [u8]) -> Encoded
+// The message's bytes at the front of the output, built in a cleared buffer and then copied, as a host is told of it; or a refusal, and the output as it was.
+pub fn encode(message: &Message, out: &mut [u8]) -> Encoded
     ensures { (result ≡ answer (encode message.now out.old)) × (out.new ≡ (encode message.now out.old).buffer) }
 {
-    Encoded::from(written(message, out))
+    Encoded::from(write(message, out))
 }
 
-// By the kind of the message: how many bytes it takes. The shortest messages are written in the caller itself.
-#[inline(always)]
-fn written(message: &Message, out: &mut [u8]) -> Result<u32, Refusal>
+// The same: how many bytes these are. By the kind of the message.
+pub fn write(message: &Message, out: &mut [u8]) -> Result<u32, Refusal>
     ensures { (told_of result ≡ answer (encode message.now out.old)) × (out.new ≡ (encode message.now out.old).buffer) }
 {
     let code = message.code;

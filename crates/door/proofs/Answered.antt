@@ -1,6 +1,6 @@
 -- What encoding refuses, how a call ends by what it answers, and what `take` makes of bytes that decode, or do not. Assumes nothing.
 use Prim.Native.Nat.{ℕ}
-use mathlib.Core.Path.{◌≡◌, refl}
+use mathlib.Core.Path.{◌≡◌, refl, sym, ap, ◌∙◌}
 use mathlib.Core.Bool.{Bool, true, false, cond}
 use mathlib.Core.List.{List}
 use lib.Dec.{ltb, eqb}
@@ -9,7 +9,11 @@ use Rattle.rules.specs.Choice.{◌if◌else◌}
 use Rattle.rules.specs.Flags.{there}
 use Rattle.rules.specs.declared.refusals.Refusal.{Refusal}
 use Rattle.rules.specs.declared.refusals.Refusal.TheVariants.{OutOfRange, BadPieces, BadSet, Untouched, OtherPieces, OtherSet, TooFew, Misplaced, NoBallot, Cut, Left, Unknown, OutOfForm, NoRoom}
-use Rattle.rules.specs.Refusal.{number_of}
+use Rattle.rules.specs.Refusal.{number_of, told}
+use Rattle.std.specs.Prelude.{Result, Ok, Err, IfOk, OnErr}
+use Rattle.encoding.specs.declared.Encoded.{Encoded}
+use Rattle.encoding.specs.Answers.{answer, told_of}
+use Rattle.door.proofs.Unwritten.{unwritten}
 use Rattle.wire.specs.declared.Message.{Message}
 use Rattle.wire.specs.Bytes.{bytes, unwritable, encode_refusal, decode}
 use Rattle.wire.specs.Encoding.{Encoding, refused, written, encode}
@@ -33,18 +37,19 @@ number-there Unknown = refl
 number-there OutOfForm = refl
 number-there NoRoom = refl
 
--- a third refusal of encoding there is not
-pub no-third : (m : Message) (z : List ℕ) → ((encode m z).refusal ≡ 0 → ⊥) → ((encode m z).refusal ≡ 12 → ⊥) → 14 ≡ (encode m z).refusal
-unfolding encode encode_refusal
-no-third m z = go (unwritable m) (ltb (length z) (length (bytes.put m)))
-  where
-    at : ℕ → Encoding
-    at r = written (bytes.put m) z if eqb r 0 else refused r z
+-- what a host is told of an outcome is what is told of it
+pub told-is : (r : Result ℕ Refusal) (e : Encoded) → told_of r ≡ e → told r ≡ e.refusal
+told-is (Ok n) e h = λ i. (h i).refusal
+told-is (Err x) e h = λ i. (h i).refusal
 
-    go : (a b : Bool) → ((at (cond a 12 (cond b 14 0))).refusal ≡ 0 → ⊥) → ((at (cond a 12 (cond b 14 0))).refusal ≡ 12 → ⊥) → 14 ≡ (at (cond a 12 (cond b 14 0))).refusal
-    go true b p q = absurd (q refl)
-    go false true p q = refl
-    go false false p q = absurd (p refl)
+pub length-is : (r : Result ℕ Refusal) (e : Encoded) → told_of r ≡ e → IfOk r (λ n. n ≡ e.length)
+length-is (Ok n) e h = λ i. (h i).length
+length-is (Err x) e h = tt
+
+-- where it refuses, the output is as it was
+pub kept-is : (r : Result ℕ Refusal) (m : Message) (z : List ℕ) → told_of r ≡ answer (encode m z) → OnErr r ((encode m z).buffer ≡ z)
+kept-is (Ok n) m z h = tt
+kept-is (Err x) m z h = unwritten m z (ap there (sym (λ i. (h i).refusal)) ∙ number-there x)
 
 -- where encoding refuses nothing is stored, and the output is as it was; else the server X is
 module _ (s X : Server) (m : Message) (z : List ℕ) where

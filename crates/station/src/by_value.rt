@@ -28,5 +28,5 @@ pub fn drobulets_encode(message: &Message, output: &mut [u8]) -> Encoded
     ensures { (result ≡ answer (encode message.now output.old))
         × (output.new ≡ (encode message.now output.old).buffer) }
 {
-    codec::encode_lent(message, output)
+    codec::encode(message, output)
 }

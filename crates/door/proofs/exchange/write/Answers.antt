@@ -1,22 +1,13 @@
--- `door::exchange::write` meets its contract. Assumes nothing.
-use Rattle.std.proofs.Common.{◌∙◌, sym, ap, arith}
-use Rattle.encoding.specs.declared.Encoded.{Encoded}
-use Rattle.door.proofs.Answered.{no-third}
-use Rattle.door.proofs.Unwritten.{unwritten}
+-- `door::exchange::write` meets its contract: what is told of an outcome is what a host is told. Assumes nothing.
+use Rattle.std.proofs.Common.{◌∙◌}
+use Rattle.door.proofs.Answered.{told-is, length-is, kept-is}
 use Rattle.door.proofs.exchange.write.Goals as goal
 
-pub returns-in_default-clause-refusal : goal.returns-in_default-clause-refusal
-returns-in_default-clause-refusal c =
-    let e = ap (λ (x : Encoded). x.refusal) c.encode_lent-e.ensures.0 in
-    no-third c.args.m.now c.args.output.now (λ z. omega (arith, e, z)) (λ z. omega (arith, e, z))
+pub returns-clause-refusal : goal.returns-clause-refusal
+returns-clause-refusal c = told-is _ _ c.write.ensures.0
 
-pub returns-in-12-clause-kept : goal.returns-in-12-clause-kept
-returns-in-12-clause-kept c =
-    let e = ap (λ (x : Encoded). x.refusal) c.encode_lent-e.ensures.0 in
-    c.encode_lent-e.ensures.1 ∙ unwritten c.args.m.now c.args.output.now (rw (sym e ∙ c.in-12.is))
+pub returns-clause-length : goal.returns-clause-length
+returns-clause-length c = length-is _ _ c.write.ensures.0
 
-pub returns-in_default-clause-kept : goal.returns-in_default-clause-kept
-returns-in_default-clause-kept c =
-    let e = ap (λ (x : Encoded). x.refusal) c.encode_lent-e.ensures.0 in
-    c.encode_lent-e.ensures.1
-    ∙ unwritten c.args.m.now c.args.output.now (rw (← no-third c.args.m.now c.args.output.now (λ z. omega (arith, e, z)) (λ z. omega (arith, e, z))))
+pub returns-clause-kept : goal.returns-clause-kept
+returns-clause-kept c = rw c.write.ensures.1 (kept-is c.write.result c.args.m.now c.args.output.now c.write.ensures.0)

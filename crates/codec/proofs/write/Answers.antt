@@ -3,7 +3,7 @@ use mathlib.Core.Path.{sym, ap, ◌∙◌}
 use Rattle.wire.specs.Encoding.{Encoding}
 use Rattle.encoding.specs.Answers.{answer}
 use Rattle.encoding.proofs.EncodeWhole.{encode-bare, encode-asked, encode-answered, encode-12}
-use Rattle.codec.proofs.written.Goals as goal
+use Rattle.codec.proofs.write.Goals as goal
 
 pub returns-then-bare : goal.returns-then-bare
 returns-then-bare c =
