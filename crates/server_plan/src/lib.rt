@@ -1,7 +1,7 @@
 // What runs on a lent server, and in which order: known before any number runs.
 #![tactic(auto)]
 
-ghost use Rattle.std.specs.Prelude.{◌≡◌, ◌<◌};
+ghost use Rattle.std.specs.Prelude.{◌≤◌, ◌≡◌, ◌<◌};
 ghost use Rattle.server_read.specs.InPlace.{kept};
 ghost use Rattle.server_plan.specs.Planning.{unrun_of, committed_with, waiting_turn, waiting_in, logged_of, planned_log, planned_by, waits_alone, nothing_planned, planned_after, made};
 

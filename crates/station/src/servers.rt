@@ -43,7 +43,12 @@ fn place_in(c: &Considered) -> usize
 // A Commit that nothing refused, at a server of this form, before anything is stored: `c` is what it comes to. On a refusal of the output nothing is stored and nothing runs.
 // It stays a function of its own, so that no other message has its plan on the stack.
 #[inline(never)]
-pub fn take_commit(s: &mut Server, f: Form, c: &Considered, output: &mut [u8]) -> Result<u32, Refusal>
+pub fn take_commit(
+    s: &mut Server,
+    f: Form,
+    c: &Considered,
+    output: &mut [u8],
+) -> Result<u32, Refusal>
     ensures answer { answered result ≡ (committed s.old (kept f) c.now output.old).answer }
     ensures server { s.new ≡ (committed s.old (kept f) c.now output.old).server }
     ensures output { output.new ≡ (committed s.old (kept f) c.now output.old).output }

@@ -18,7 +18,7 @@ loop-t-preserved c =
 
 pub returns-clause-many : goal.returns-clause-many
 unfolding few_of
-returns-clause-many c = refl
+returns-clause-many c = c.min-many.ensures
 
 pub returns-clause-server : goal.returns-clause-server
 unfolding ran_planned few_of

@@ -31,4 +31,4 @@ returns-clause-server c =
     let told : Told s = c.way_told-1.given in
     let f = c.in_ok-form.form in
     let d = c.waiting_in-d in
-    rw (c.run_planned.ensures, c.plan_runs-p.ensures, plan-so s c.args.limit f c.in_ok-form.ensures.0 c.in_ok-form.ensures.1 d.result d.ensures) (runs_left s c.args.limit told)
+    rw (c.run_planned.ensures.server, c.plan_runs-p.ensures, plan-so s c.args.limit f c.in_ok-form.ensures.0 c.in_ok-form.ensures.1 d.result d.ensures) (runs_left s c.args.limit told)
