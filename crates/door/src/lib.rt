@@ -24,7 +24,7 @@ impl From<Result<u32, Refusal>> for Answer {
         match written {
             Ok(length) => Answer { refusal: 0, length },
             Err(refusal) => Answer {
-                refusal: refusal.number(),
+                refusal: u32::from(refusal),
                 length: 0,
             },
         }
@@ -58,7 +58,7 @@ impl From<Result<Posted, Refusal>> for Due {
                 servers: posted.servers,
             },
             Err(refusal) => Due {
-                refusal: refusal.number(),
+                refusal: u32::from(refusal),
                 ..Due::default()
             },
         }
@@ -80,7 +80,7 @@ impl From<Result<u32, Refusal>> for Counted {
         match ran {
             Ok(many) => Counted { refusal: 0, many },
             Err(refusal) => Counted {
-                refusal: refusal.number(),
+                refusal: u32::from(refusal),
                 many: 0,
             },
         }

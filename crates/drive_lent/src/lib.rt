@@ -16,6 +16,6 @@ pub fn hear_lent(d: &mut Drive, m: &Message) -> u32
             *d = heard;
             0
         }
-        Err(refusal) => refusal.number(),
+        Err(refusal) => u32::from(refusal),
     }
 }

@@ -30,7 +30,7 @@ impl From<Result<u32, Refusal>> for Encoded {
         match outcome {
             Ok(length) => Encoded { refusal: 0, length },
             Err(refusal) => Encoded {
-                refusal: refusal.number(),
+                refusal: u32::from(refusal),
                 length: 0,
             },
         }

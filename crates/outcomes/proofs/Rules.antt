@@ -20,9 +20,7 @@ use Rattle.rules.proofs.sets.union_set.Reads as rules·sets·union-set-contract
 use Rattle.rules.proofs.sets.members.Reads as rules·sets·members-contract
 use Rattle.rules.proofs.sets.bad_word.Reads as rules·sets·bad-word-contract
 use Rattle.rules.proofs.sets.bad_set.Reads as rules·sets·bad-set-contract
-use Rattle.rules.proofs.refusals.Refusal.number.Reads as rules·refusals·Refusal·number-contract
 use Rattle.rules.proofs.refusals.told.Reads as rules·refusals·told-contract
-use Rattle.rules.proofs.kinds.Kind.of.Reads as rules·kinds·Kind·of-contract
 use Rattle.rules.proofs.kinds.Kind.writes.Reads as rules·kinds·Kind·writes-contract
 
 pub rules·Ballot·next : Answers rules·Ballot·next-contract.Post
@@ -79,14 +77,8 @@ rules·sets·bad-word κ a x y e e' p q = p ∙ sym q
 pub rules·sets·bad-set : Answers rules·sets·bad-set-contract.Post
 rules·sets·bad-set κ a x y e e' p q = p ∙ sym q
 
-pub rules·refusals·Refusal·number : Answers rules·refusals·Refusal·number-contract.Post
-rules·refusals·Refusal·number κ a x y e e' p q = p ∙ sym q
-
 pub rules·refusals·told : Answers rules·refusals·told-contract.Post
 rules·refusals·told κ a x y e e' p q = p ∙ sym q
-
-pub rules·kinds·Kind·of : Answers rules·kinds·Kind·of-contract.Post
-rules·kinds·Kind·of κ a x y e e' p q = p ∙ sym q
 
 pub rules·kinds·Kind·writes : Answers rules·kinds·Kind·writes-contract.Post
 rules·kinds·Kind·writes κ a x y e e' p q = p ∙ sym q

@@ -12,5 +12,8 @@ server-lent·first·fresh κ a x y e e' p q = told-one x y (p.0 ∙ sym q.0)
 pub server-lent·first·fresh·leaves-s : Leaves {B = Server} (λ κ e. e.0.now) server-lent·first·fresh-contract.Post
 server-lent·first·fresh·leaves-s κ a x y e e' p q = p.1 ∙ sym q.1
 
-pub server-lent·running·run-planned : Leaves {B = Server} (λ κ e. e.0.now) server-lent·running·run-planned-contract.Post
-server-lent·running·run-planned κ a x y e e' p q = p ∙ sym q
+pub server-lent·running·run-planned : Answers server-lent·running·run-planned-contract.Post
+server-lent·running·run-planned κ a x y e e' p q = p.0 ∙ sym q.0
+
+pub server-lent·running·run-planned·leaves-s : Leaves {B = Server} (λ κ e. e.0.now) server-lent·running·run-planned-contract.Post
+server-lent·running·run-planned·leaves-s κ a x y e e' p q = p.1 ∙ sym q.1

@@ -10,7 +10,7 @@ use Rattle.station.proofs.by_value.drobulets_next_ballot.Reads as station·by-va
 use Rattle.station.proofs.by_value.drobulets_decode.Reads as station·by-value·drobulets-decode-contract
 use Rattle.station.proofs.by_value.drobulets_encode.Reads as station·by-value·drobulets-encode-contract
 use Rattle.station.proofs.servers.drobulets_server_fresh.Reads as station·servers·drobulets-server-fresh-contract
-use Rattle.station.proofs.servers.commit.Reads as station·servers·commit-contract
+use Rattle.station.proofs.servers.take_commit.Reads as station·servers·take-commit-contract
 use Rattle.station.proofs.servers.drobulets_server_take.Reads as station·servers·drobulets-server-take-contract
 use Rattle.station.proofs.servers.runs.Reads as station·servers·runs-contract
 use Rattle.station.proofs.servers.drobulets_server_run.Reads as station·servers·drobulets-server-run-contract
@@ -44,14 +44,14 @@ station·servers·drobulets-server-fresh κ a x y e e' p q = p.0 ∙ sym q.0
 pub station·servers·drobulets-server-fresh·leaves-s : Leaves {B = Server} (λ κ e. e.0.now) station·servers·drobulets-server-fresh-contract.Post
 station·servers·drobulets-server-fresh·leaves-s κ a x y e e' p q = p.1 ∙ sym q.1
 
-pub station·servers·commit : Answers station·servers·commit-contract.Post
-station·servers·commit κ a x y e e' p q = answered-one x y (p.0 ∙ sym q.0)
+pub station·servers·take-commit : Answers station·servers·take-commit-contract.Post
+station·servers·take-commit κ a x y e e' p q = answered-one x y (p.0 ∙ sym q.0)
 
-pub station·servers·commit·leaves-s : Leaves {B = Server} (λ κ e. e.0.now) station·servers·commit-contract.Post
-station·servers·commit·leaves-s κ a x y e e' p q = p.1.0 ∙ sym q.1.0
+pub station·servers·take-commit·leaves-s : Leaves {B = Server} (λ κ e. e.0.now) station·servers·take-commit-contract.Post
+station·servers·take-commit·leaves-s κ a x y e e' p q = p.1.0 ∙ sym q.1.0
 
-pub station·servers·commit·leaves-output : Leaves {B = List ℕ} (λ κ e. e.1.1.1.0.now) station·servers·commit-contract.Post
-station·servers·commit·leaves-output κ a x y e e' p q = p.1.1 ∙ sym q.1.1
+pub station·servers·take-commit·leaves-output : Leaves {B = List ℕ} (λ κ e. e.1.1.1.0.now) station·servers·take-commit-contract.Post
+station·servers·take-commit·leaves-output κ a x y e e' p q = p.1.1 ∙ sym q.1.1
 
 pub station·servers·drobulets-server-take : Answers station·servers·drobulets-server-take-contract.Post
 station·servers·drobulets-server-take κ a x y e e' p q = p.0 ∙ sym q.0

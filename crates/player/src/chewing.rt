@@ -8,10 +8,10 @@ ghost use Rattle.player.specs.Walking.{begun, chewed, ending, played_of};
 
 use crate::filling::{after_data, begun, bitten, going, takes, whole};
 use crate::looking::{answered, look};
-use crate::{Play, Walk};
+use crate::{HEADS, OPENING, OVER, Play, Walk};
 use capture::text::{LINE, put_line};
-use server::{Log, Server};
-use server_run::first::{fresh_record, no_counters};
+use server::Server;
+use server_run::first::{fresh_record, no_counters, no_log};
 use station::servers::drobulets_server_take;
 use std::array;
 
@@ -19,17 +19,11 @@ use std::array;
 fn fresh_server(id: u32) -> Server
     ensures { result ≡ fresh_server id }
 {
-    let held = fresh_record();
-    let counters = no_counters();
-    let log = Log {
-        list: [0; 64],
-        count: 0,
-    };
     Server {
         id,
-        records: [held; 64],
-        counters,
-        log,
+        records: [fresh_record(); 64],
+        counters: no_counters(),
+        log: no_log(),
     }
 }
 
@@ -90,10 +84,10 @@ pub fn finish(w: Walk, out: &mut [u8]) -> usize
     ensures long { result ≡ length (ending w).text }
     ensures bytes { out.new ≡ over (ending w).text out.old }
 {
-    if w.phase == 0 || 3 <= w.phase {
+    if w.phase == OPENING || OVER <= w.phase {
         return put_text(out, b"bad header\n");
     }
-    if w.phase == 1 && w.have == 0 {
+    if w.phase == HEADS && w.have == 0 {
         return 0;
     }
     put_text(out, b"cut record\n")

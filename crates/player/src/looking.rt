@@ -29,11 +29,11 @@ pub fn look(bytes: &[u8]) -> Look
     ensures server { IfSome result.to (λ n. n < 12) }
 {
     if bytes.len() < 4 {
-        return unread(Refusal::Cut.number());
+        return unread(u32::from(Refusal::Cut));
     }
     let to = xdr::word_at(bytes, 0);
     if SERVERS + COORDINATORS <= to {
-        return unread(Refusal::OutOfRange.number());
+        return unread(u32::from(Refusal::OutOfRange));
     }
     let d = codec::decode(&bytes[4..]);
     if d.refusal != 0 {

@@ -34,12 +34,12 @@ pub enum Refusal {
     NoRoom,
 }
 
-impl Refusal {
-    // Its number in document 01.
-    pub fn number(self) -> u32
-        ensures { result ≡ number_of self }
-    {
-        match self {
+// Its number in document 01.
+impl From<Refusal> for u32 {
+    ghost from_gives = { λ r n. n ≡ number_of r };
+
+    fn from(refusal: Refusal) -> u32 {
+        match refusal {
             Refusal::OutOfRange => 1,
             Refusal::BadPieces => 2,
             Refusal::BadSet => 3,
@@ -64,6 +64,6 @@ pub fn told(judged: Result<(), Refusal>) -> u32
 {
     match judged {
         Ok(()) => 0,
-        Err(refusal) => refusal.number(),
+        Err(refusal) => u32::from(refusal),
     }
 }

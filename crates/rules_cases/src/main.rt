@@ -1,6 +1,7 @@
 // Case G and examples of the piece rules, of conflicts and of rule 3, each computed by the library: a line each.
 #![tactic(auto)]
 
+use rules::refusals::{Refusal, told};
 use rules::{Ballot, NextBallot, Piece, Pieces};
 use std::io;
 use std::io::Print;
@@ -17,29 +18,34 @@ fn line(rt: &impl Print, name: &str, n: u64) -> io::Result<()> {
 }
 
 // The refusal that the pieces get by themselves: 12, 2 or none.
-fn refusal(ps: Pieces) -> u64 {
+fn judge(ps: Pieces) -> Result<(), Refusal> {
     if transaction::too_many(ps) {
-        return 12;
+        return Err(Refusal::Unknown);
     }
-    if transaction::pieces_kept(ps) { 0 } else { 2 }
+    if transaction::pieces_kept(ps) {
+        Ok(())
+    } else {
+        Err(Refusal::BadPieces)
+    }
+}
+
+fn refusal(ps: Pieces) -> u64 {
+    u64::from(told(judge(ps)))
 }
 
 fn piece(shard: u32, key: u32, kind: u32, operand: i32) -> Piece {
     Piece {
-        shard: shard,
-        key: key,
-        kind: kind,
-        operand: operand,
+        shard,
+        key,
+        kind,
+        operand,
     }
 }
 
 fn counted(p: Piece, q: Piece, count: u32) -> Pieces {
     let mut list = [p; 8];
     list[1] = q;
-    Pieces {
-        list: list,
-        count: count,
-    }
+    Pieces { list, count }
 }
 
 fn one(p: Piece) -> Pieces {
@@ -62,10 +68,7 @@ fn rising(count: u32) -> Pieces {
         piece(3, 0, 0, 0),
         piece(3, 15, 1, 2147483647),
     ];
-    Pieces {
-        list: list,
-        count: count,
-    }
+    Pieces { list, count }
 }
 
 fn ballots(rt: &impl Print) -> io::Result<()> {

@@ -5,8 +5,8 @@ ghost use Rattle.server.specs.Host.{fresh};
 
 use rules::cluster::bad_server;
 use rules::refusals::Refusal;
-use server::{Log, Server};
-use server_run::first::{fresh_record, no_counters};
+use server::Server;
+use server_run::first::{fresh_record, no_counters, no_log};
 
 // A fresh server `id` in the lent place, whatever stood there.
 pub fn fresh(s: &mut Server, id: u32) -> Result<(), Refusal>
@@ -19,9 +19,6 @@ pub fn fresh(s: &mut Server, id: u32) -> Result<(), Refusal>
     s.id = id;
     s.records.fill(fresh_record());
     s.counters = no_counters();
-    s.log = Log {
-        list: [0; 64],
-        count: 0,
-    };
+    s.log = no_log();
     Ok(())
 }

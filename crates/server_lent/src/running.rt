@@ -2,7 +2,7 @@
 ghost use Rattle.std.specs.Prelude.{◌≡◌, ◌<◌};
 ghost use Rattle.rules.specs.Pieces.{used};
 ghost use Rattle.server.specs.Held.{record_at};
-ghost use Rattle.server_lent.specs.Listed.{ran_pieces, with_counters, spot_of, ran_planned};
+ghost use Rattle.server_lent.specs.Listed.{ran_pieces, with_counters, spot_of, few_of, ran_planned};
 
 use messages::blanks::no_values;
 use rules::Values;
@@ -42,9 +42,10 @@ fn run_pieces(s: &mut Server, u: usize, k: u32) -> Values
     v
 }
 
-// The numbers of the plan run, each in its place, and the log is stored.
-pub fn run_planned(s: &mut Server, p: &Planned)
-    ensures { s.new ≡ ran_planned p.now.plan p.now.log p.now.many s.old }
+// The numbers of the plan run, each in its place, and the log is stored. Answers how many numbers ran.
+pub fn run_planned(s: &mut Server, p: &Planned) -> usize
+    ensures many { result ≡ few_of p.now.many }
+    ensures server { s.new ≡ ran_planned p.now.plan p.now.log p.now.many s.old }
 {
     let many = (p.many as usize).min(64);
     for t in 0..many {
@@ -54,4 +55,5 @@ pub fn run_planned(s: &mut Server, p: &Planned)
         s.records[u].ran = 1;
     }
     s.log = p.log;
+    many
 }

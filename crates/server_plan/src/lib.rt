@@ -1,7 +1,7 @@
 // What runs on a lent server, and in which order: known before any number runs.
 #![tactic(auto)]
 
-ghost use Rattle.std.specs.Prelude.{◌≡◌, ◌<◌};
+ghost use Rattle.std.specs.Prelude.{◌≤◌, ◌≡◌, ◌<◌};
 ghost use Rattle.server_read.specs.InPlace.{kept};
 ghost use Rattle.server_plan.specs.Planning.{unrun_of, committed_with, waiting_turn, waiting_in, logged_of, planned_log, planned_by, waits_alone, nothing_planned, planned_after, made};
 
@@ -59,18 +59,19 @@ fn committed_with(w: u64, t: usize, c: &MaybeSet) -> u64
     masks::put(w, t, c.some != 0)
 }
 
-// What the numbers wait for that is not in the word: each committed set is read in its place.
+// What the numbers below `many` wait for that is not in the word: each committed set is read in its place.
 // It stays a function of its own, so that its words lie on the stack once.
 #[inline(never)]
-pub fn waiting_in(s: &Server, word: u64) -> Waiting
-    ensures { result ≡ waiting_in s.now word 64 }
+pub fn waiting_in(s: &Server, word: u64, many: usize) -> Waiting
+    requires { many ≤ 64 }
+    ensures { result ≡ waiting_in s.now word many }
 {
     let mut d = Waiting {
         deps: [0; 64],
         committed: 0,
     };
-    for (t, record) in s.records.iter().enumerate() {
-        d.note(word, t, &record.committed);
+    for t in 0..many {
+        d.note(word, t, &s.records[t].committed);
     }
     d
 }
@@ -105,7 +106,7 @@ fn planned_log(rows: &[u64; 64], committed: u64, ran: u64, l: &mut Log, limit: u
 }
 
 // The plan of at most `limit` runs.
-pub fn plan_by(f: Form, d: &Waiting, log: &Log, limit: u32) -> Planned
+pub fn plan_runs(f: Form, d: &Waiting, log: &Log, limit: u32) -> Planned
     ensures { result ≡ made (planned_by (kept f) d.now.deps d.now.committed log.now limit) }
 {
     let mut rows = d.deps;
@@ -146,12 +147,12 @@ fn nothing_planned(f: Form, log: &Log) -> Planned
 }
 
 // The plan until 0 where the number `t` has become committed and waits for `u`. Where it waits alone, as most that wait do, no closure is made.
-pub fn plan_after(f: Form, d: &Waiting, t: usize, u: u64, log: &Log) -> Planned
+pub fn plan_commit(f: Form, d: &Waiting, t: usize, u: u64, log: &Log) -> Planned
     requires { t < 64 }
     ensures { result ≡ made (planned_after (kept f) d.now t u log.now) }
 {
     if waits_alone(f.word, d.committed, t, u) {
         return nothing_planned(f, log);
     }
-    plan_by(f, d, log, 64)
+    plan_runs(f, d, log, 64)
 }

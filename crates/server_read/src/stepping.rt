@@ -29,7 +29,7 @@ fn earlier(s: &Server, keys: Keys, k: u32) -> u64
 // What the step of the lent server, whose form is known, comes to on the message `m` before anything runs. The arrival set is looked for only where the message fixes it.
 // It stays a function of its own: laid into its caller, the records and replies that it makes on the way would lie on the stack while a Commit runs.
 #[inline(never)]
-pub fn consider(s: &Server, f: Form, m: &Message) -> Result<Considered, Refusal>
+pub fn weigh(s: &Server, f: Form, m: &Message) -> Result<Considered, Refusal>
     ensures refusal { told result ≡ (considered_by s.now (kept f) m.now).refusal }
     ensures taken { let o = considered_by s.now (kept f) m.now in IfOk result (λ c. c ≡ record { place = o.place; after = o.after; reply = o.reply }) }
 {

@@ -33,7 +33,7 @@ pub fn wanted(s: &Server) -> Wants
     match missing(s) {
         Ok(set) => Wants { refusal: 0, set },
         Err(refusal) => Wants {
-            refusal: refusal.number(),
+            refusal: u32::from(refusal),
             set: no_set(),
         },
     }

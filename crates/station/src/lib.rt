@@ -1,4 +1,4 @@
-// What a host program in C or Rust calls: thin functions over lent states and bytes; `station_c` exports them. A server is read and changed in its place; a drive is copied out, one proved function does the work by value, and the drive is stored whole, or what of it changed.
+// What a host program in C or Rust calls: thin functions over lent states and bytes; `station_c` exports them. A server and a drive are read and changed in their place, and what a host is told is made once from what the functions below answer.
 #![tactic(auto)]
 
 pub mod by_value; // by_value.rt: messages and ballots by value

@@ -16,9 +16,9 @@ use messages::replies::commit_ok;
 use rules::refusals::{Refusal, told};
 use server::{Server, Wants};
 use server_lent::running::run_planned;
-use server_plan::{plan_after, plan_by, unrun_of, waiting_in};
+use server_plan::{plan_commit, plan_runs, unrun_of, waiting_in};
 use server_read::form::{Form, read_form};
-use server_read::stepping::consider;
+use server_read::stepping::weigh;
 use server_step::Considered;
 use server_step::record::place_of;
 use server_step::refusals::commits;
@@ -43,16 +43,21 @@ fn place_in(c: &Considered) -> usize
 // A Commit that nothing refused, at a server of this form, before anything is stored: `c` is what it comes to. On a refusal of the output nothing is stored and nothing runs.
 // It stays a function of its own, so that no other message has its plan on the stack.
 #[inline(never)]
-pub fn commit(s: &mut Server, f: Form, c: &Considered, output: &mut [u8]) -> Result<u32, Refusal>
+pub fn take_commit(
+    s: &mut Server,
+    f: Form,
+    c: &Considered,
+    output: &mut [u8],
+) -> Result<u32, Refusal>
     ensures answer { answered result ≡ (committed s.old (kept f) c.now output.old).answer }
     ensures server { s.new ≡ (committed s.old (kept f) c.now output.old).server }
     ensures output { output.new ≡ (committed s.old (kept f) c.now output.old).output }
 {
     let at = place_in(c);
-    let mut d = waiting_in(&*s, f.word);
+    let mut d = waiting_in(&*s, f.word, 64);
     d.note(f.word, at, &c.after.committed);
     let u = unrun_of(&c.after.committed, f.word);
-    let p = plan_after(f, &d, at, u, &s.log);
+    let p = plan_commit(f, &d, at, u, &s.log);
     let length = write(&commit_ok(c.reply.t, c.reply.server, p.many), output)?;
     s.records[at] = c.after;
     run_planned(&mut *s, &p);
@@ -70,9 +75,9 @@ fn take(s: &mut Server, m: &Message, output: &mut [u8]) -> Result<u32, Refusal>
     // What is read is not needed: a read tells the proof what the lent server holds.
     let _told = s.records[0].ran;
     let f = read_form(&*s)?;
-    let c = consider(&*s, f, m)?;
+    let c = weigh(&*s, f, m)?;
     if commits(m.code) {
-        return commit(&mut *s, f, &c, output);
+        return take_commit(&mut *s, f, &c, output);
     }
     let length = write(&c.reply, output)?;
     s.records[c.place] = c.after;
@@ -103,8 +108,8 @@ pub fn runs(s: &mut Server, limit: u32) -> Result<u32, Refusal>
     // What is read is not needed: a read tells the proof what the lent server holds.
     let _told = s.records[0].ran;
     let form = read_form(&*s)?;
-    let d = waiting_in(&*s, form.word);
-    let p = plan_by(form, &d, &s.log, limit);
+    let d = waiting_in(&*s, form.word, 64);
+    let p = plan_runs(form, &d, &s.log, limit);
     run_planned(&mut *s, &p);
     Ok(p.many)
 }

@@ -19,7 +19,7 @@ pub fn keys_on(ps: Pieces, k: u32) -> Keys
         let p = ps.list[i];
         let here = p.shard == k;
         all = put_below(all, KEYS, p.key, here);
-        written = put_below(written, KEYS, p.key, here & Kind::of(p.kind).writes());
+        written = put_below(written, KEYS, p.key, here & Kind::from(p.kind).writes());
     }
     Keys {
         all: all,

@@ -26,7 +26,7 @@ pub fn piece_kept(p: Piece) -> bool
     (p.shard < SHARDS)
         & (p.key < KEYS)
         & (p.kind < KINDS)
-        & (Kind::of(p.kind).writes() | (p.operand == 0))
+        & (Kind::from(p.kind).writes() | (p.operand == 0))
 }
 
 // The shards that pieces touch, as a word; 0 where they break rule 2. Whoever keeps it touches a shard.

@@ -9,16 +9,16 @@ use Rattle.counters.proofs.effect.Goals as goal
 
 pub returns-in-Read : goal.returns-in-Read
 unfolding effect
-returns-in-Read c = rw (kind-read c.args.kind (sym c.of.ensures ∙ c.in-Read.is)) (c.gives.ensures ∙ ap (gives c.args.counter) c.kept_of.ensures)
+returns-in-Read c = rw (kind-read c.args.kind (sym c.from.ensures ∙ c.in-Read.is)) (c.gives.ensures ∙ ap (gives c.args.counter) c.kept_of.ensures)
 
 pub returns-in-Put : goal.returns-in-Put
 unfolding effect
 returns-in-Put c =
-    let e = sym c.of.ensures ∙ c.in-Put.is in
+    let e = sym c.from.ensures ∙ c.in-Put.is in
     rw (kind-put c.args.kind e, kind-is_put c.args.kind e) (c.gives-in-Put.ensures ∙ ap (λ (z : ℤ). gives (holding z) 0) (back _ c.ranges.n))
 
 pub returns-in-Add : goal.returns-in-Add
 unfolding effect
 returns-in-Add c =
-    let e = sym c.of.ensures ∙ c.in-Add.is in
+    let e = sym c.from.ensures ∙ c.in-Add.is in
     rw (kind-add c.args.kind e, kind-no_put c.args.kind e) (c.added.ensures ∙ ap (added c.args.counter) (back _ c.ranges.n))

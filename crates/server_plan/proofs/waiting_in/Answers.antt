@@ -18,5 +18,5 @@ loop-t-preserved c =
 
 pub returns : goal.returns
 returns c =
-    let end : c.loop-t.t ≡ 64 = omega arith in
+    let end : c.loop-t.t ≡ c.args.many = omega arith in
     c.loop-t.invariant ∙ ap (waiting_in c.args.s.now c.args.word) end

@@ -4,4 +4,4 @@ use Rattle.rules.proofs.KindIs.{kind-writes}
 use Rattle.transaction.proofs.piece_kept.Goals as goal
 
 pub returns : goal.returns
-returns c = rw (zero_bits _ (record { sfits = c.struct_told-1.given.1.1.1.0.1 }), c.writes.ensures, c.of.ensures, kind-writes c.args.p.kind)
+returns c = rw (zero_bits _ (record { sfits = c.struct_told-1.given.1.1.1.0.1 }), c.writes.ensures, c.from.ensures, kind-writes c.args.p.kind)

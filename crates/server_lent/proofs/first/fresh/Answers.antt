@@ -19,4 +19,4 @@ pub returns-clause-server : goal.returns-clause-server
 unfolding fresh fresh_server
 returns-clause-server c =
     let long : length c.args.s.now.records ≡ 64 = omega arith in
-    rw (sym c.bad_server.ensures ∙ c.if-bad_server.false, c.no_counters-s.ensures, c.fill.ensures.after (λ y e. e), long, c.fresh_record.ensures)
+    rw (sym c.bad_server.ensures ∙ c.if-bad_server.false, c.no_counters-s.ensures, c.no_log-s.ensures, c.fill.ensures.after (λ y e. e), long, c.fresh_record.ensures)

@@ -16,9 +16,13 @@ loop-t-preserved c =
     rw (add-one t, c.run_pieces-v.ensures.server, c.run_pieces-v.ensures.values, c.place_of-u.ensures.value, c.spot.ensures.value, c.loop-t.invariant)
     (run-listed-left-next c.args.s.now c.args.p.now.plan c.args.p.now.log 0 t)
 
-pub returns : goal.returns
+pub returns-clause-many : goal.returns-clause-many
+unfolding few_of
+returns-clause-many c = c.min-many.ensures
+
+pub returns-clause-server : goal.returns-clause-server
 unfolding ran_planned few_of
-returns c =
+returns-clause-server c =
     let p = c.args.p.now in
     let end : c.loop-t.t ≡ min p.many 64 = omega arith in
     ap (λ (z : Server). record { id = z.id; records = z.records; counters = z.counters; log = p.log })

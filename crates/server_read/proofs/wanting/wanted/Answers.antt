@@ -8,4 +8,4 @@ returns-in-Ok c = rw (c.in-Ok.ensures.0, c.in-Ok.ensures.1)
 
 pub returns-in-Err : goal.returns-in-Err
 unfolding wanted
-returns-in-Err c = rw (c.in-Err.ensures.0, c.no_set.ensures, c.number.ensures, c.in-Err.ensures.1)
+returns-in-Err c = rw (c.in-Err.ensures.0, c.no_set.ensures, c.from.ensures, c.in-Err.ensures.1)

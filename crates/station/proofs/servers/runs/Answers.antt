@@ -22,7 +22,7 @@ returns-clause-count c =
     let f = c.in_ok-form.form in
     let d = c.waiting_in-d in
     let plan = plan-so s c.args.limit f c.in_ok-form.ensures.0 c.in_ok-form.ensures.1 d.result d.ensures in
-    rw (c.plan_by-p.ensures, plan)
+    rw (c.plan_runs-p.ensures, plan)
     (ap (λ (n : ℕ). let x : Counted = record { refusal = n; many = (planned s c.args.limit).many } in x) (plan-fine s c.args.limit f c.in_ok-form.ensures.0 c.in_ok-form.ensures.1 d.result d.ensures) ∙ runs-told s c.args.limit told)
 
 pub returns-clause-server : goal.returns-clause-server
@@ -31,4 +31,4 @@ returns-clause-server c =
     let told : Told s = c.way_told-1.given in
     let f = c.in_ok-form.form in
     let d = c.waiting_in-d in
-    rw (c.run_planned.ensures, c.plan_by-p.ensures, plan-so s c.args.limit f c.in_ok-form.ensures.0 c.in_ok-form.ensures.1 d.result d.ensures) (runs_left s c.args.limit told)
+    rw (c.run_planned.ensures.server, c.plan_runs-p.ensures, plan-so s c.args.limit f c.in_ok-form.ensures.0 c.in_ok-form.ensures.1 d.result d.ensures) (runs_left s c.args.limit told)

@@ -51,7 +51,7 @@ returns-then-commits-clause-answer c =
     let z = c.args.output.now in
     let told : Told s = c.way_told-1.given in
     let all = commit-all s m z c.in_ok-f.f c.in_ok-f.ensures.0 c.in_ok-f.ensures.1 c.in_ok-c.ensures.refusal c.in_ok-c.c c.in_ok-c.ensures.taken told c.requires (sym c.commits.ensures ∙ c.if-commits.true) in
-    c.commit.ensures.answer ∙ ap (λ (x : Exchange). x.answer) all
+    c.take_commit.ensures.answer ∙ ap (λ (x : Exchange). x.answer) all
 
 pub returns-then-commits-clause-server : goal.returns-then-commits-clause-server
 returns-then-commits-clause-server c =
@@ -60,7 +60,7 @@ returns-then-commits-clause-server c =
     let z = c.args.output.now in
     let told : Told s = c.way_told-1.given in
     let all = commit-all s m z c.in_ok-f.f c.in_ok-f.ensures.0 c.in_ok-f.ensures.1 c.in_ok-c.ensures.refusal c.in_ok-c.c c.in_ok-c.ensures.taken told c.requires (sym c.commits.ensures ∙ c.if-commits.true) in
-    c.commit.ensures.server ∙ ap (λ (x : Exchange). x.server) all
+    c.take_commit.ensures.server ∙ ap (λ (x : Exchange). x.server) all
 
 pub returns-then-commits-clause-output : goal.returns-then-commits-clause-output
 returns-then-commits-clause-output c =
@@ -69,7 +69,7 @@ returns-then-commits-clause-output c =
     let z = c.args.output.now in
     let told : Told s = c.way_told-1.given in
     let all = commit-all s m z c.in_ok-f.f c.in_ok-f.ensures.0 c.in_ok-f.ensures.1 c.in_ok-c.ensures.refusal c.in_ok-c.c c.in_ok-c.ensures.taken told c.requires (sym c.commits.ensures ∙ c.if-commits.true) in
-    c.commit.ensures.output ∙ ap (λ (x : Exchange). x.output) all
+    c.take_commit.ensures.output ∙ ap (λ (x : Exchange). x.output) all
 
 -- another message, of which encoding refuses the reply
 pub returns-in_err-length-clause-answer : goal.returns-in_err-length-clause-answer

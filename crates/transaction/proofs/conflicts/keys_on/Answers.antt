@@ -24,7 +24,7 @@ loop-i-preserved c =
     let turn = c.loop-i in
     let start = c.args in
     let on = on_counted start.ps start.k turn.i (omega arith) in
-    (search rules, search rules, search rules, rw (keys_step, on, ← turn.invariant.3) c.put_below-all.ensures, rw (written_step, on, ← turn.invariant.4, ← kind-writes (piece_at start.ps turn.i).kind, ← c.of.ensures, ← c.writes.ensures) c.put_below-written.ensures)
+    (search rules, search rules, search rules, rw (keys_step, on, ← turn.invariant.3) c.put_below-all.ensures, rw (written_step, on, ← turn.invariant.4, ← kind-writes (piece_at start.ps turn.i).kind, ← c.from.ensures, ← c.writes.ensures) c.put_below-written.ensures)
 
 pub returns : goal.returns
 returns c =

@@ -1,4 +1,4 @@
--- `server_read::stepping::consider` meets its contract: the record of T is read in its place, and then the records that come to ask.
+-- `server_read::stepping::weigh` meets its contract: the record of T is read in its place, and then the records that come to ask.
 use Rattle.std.proofs.Common.{◌≡◌, cond, ◌&&◌}
 use Rattle.std.proofs.lemmas.Result.{err_from_is_err_and}
 use lib.Dec.{eqb}
@@ -7,8 +7,8 @@ use Rattle.rules.specs.Keys.{keys_on}
 use Rattle.server.specs.Held.{record_at}
 use Rattle.server_read.specs.InPlace.{earlier_in, considered_by}
 use Rattle.server_read.proofs.StepInPlace.{taken-by}
-use Rattle.server_read.proofs.stepping.consider.Goals as goal
-use Rattle.server_read.proofs.stepping.consider.Goals.{then-fixes, else-fixes}
+use Rattle.server_read.proofs.stepping.weigh.Goals as goal
+use Rattle.server_read.proofs.stepping.weigh.Goals.{then-fixes, else-fixes}
 
 pub returns-in_err-refuse-clause-refusal : goal.returns-in_err-refuse-clause-refusal
 unfolding considered_by
