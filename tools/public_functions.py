@@ -77,21 +77,26 @@ def trait_clauses(text):
     return found
 
 
+def contract(text, at, ends):
+    """The ensures clauses from `at` to the next of the characters `ends`, and its place."""
+    ensures = []
+    while at < len(text) and text[at] not in ends:
+        clause = re.match(r'(requires|ensures|ghost)(\s+\w+)?\s*\{', text[at:])
+        if clause:
+            inner, after = block(text, at + clause.end() - 1)
+            if clause.group(1) == 'ensures':
+                ensures.append(' '.join(inner.split()))
+            at = after
+        else:
+            at += 1
+    return ensures, at
+
+
 def signatures(text):
     """The functions that a trait declares: their names and ensures clauses."""
     for m in re.finditer(r'\bfn\s+(\w+)', text):
         _, at = parameters(text, m.end())
-        ensures = []
-        while at < len(text) and text[at] != ';':
-            clause = re.match(r'(requires|ensures|ghost)(\s+\w+)?\s*\{', text[at:])
-            if clause:
-                inner, after = block(text, at + clause.end() - 1)
-                if clause.group(1) == 'ensures':
-                    ensures.append(' '.join(inner.split()))
-                at = after
-            else:
-                at += 1
-        yield m.group(1), ensures
+        yield m.group(1), contract(text, at, ';')[0]
 
 
 def functions_of(text, prefix, homes, traits, inherited=None):
@@ -111,16 +116,7 @@ def functions_of(text, prefix, homes, traits, inherited=None):
             continue
         params, at = parameters(text, m.end())
         arrow = re.match(r'\s*->\s*([^\s{]+)', text[at:])
-        ensures = []
-        while text[at] != '{':
-            clause = re.match(r'(requires|ensures|ghost)(\s+\w+)?\s*\{', text[at:])
-            if clause:
-                inner, after = block(text, at + clause.end() - 1)
-                if clause.group(1) == 'ensures':
-                    ensures.append(' '.join(inner.split()))
-                at = after
-            else:
-                at += 1
+        ensures, at = contract(text, at, '{')
         body, at = block(text, at)
         name = m.group(4) or (m.group(6) if inherited else None)
         if name:

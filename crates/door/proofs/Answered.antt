@@ -1,41 +1,25 @@
 -- What encoding refuses, how a call ends by what it answers, and what `take` makes of bytes that decode, or do not. Assumes nothing.
 use Prim.Native.Nat.{ℕ}
-use mathlib.Core.Path.{◌≡◌, refl, sym, ap, ◌∙◌}
-use mathlib.Core.Bool.{Bool, true, false, cond}
+use mathlib.Core.Path.{◌≡◌, sym, ap, ◌∙◌}
+use mathlib.Core.Bool.{true, false, not}
 use mathlib.Core.List.{List}
-use lib.Dec.{ltb, eqb}
-use lib.ListN.{length}
-use Rattle.rules.specs.Choice.{◌if◌else◌}
 use Rattle.rules.specs.Flags.{there}
 use Rattle.rules.specs.declared.refusals.Refusal.{Refusal}
-use Rattle.rules.specs.declared.refusals.Refusal.TheVariants.{OutOfRange, BadPieces, BadSet, Untouched, OtherPieces, OtherSet, TooFew, Misplaced, NoBallot, Cut, Left, Unknown, OutOfForm, NoRoom}
 use Rattle.rules.specs.Refusal.{number_of, told}
+use Rattle.drive.proofs.Told.{told-other}
 use Rattle.std.specs.Prelude.{Result, Ok, Err, IfOk, OnErr}
 use Rattle.encoding.specs.declared.Encoded.{Encoded}
 use Rattle.encoding.specs.Answers.{answer, told_of}
 use Rattle.door.proofs.Unwritten.{unwritten}
 use Rattle.wire.specs.declared.Message.{Message}
-use Rattle.wire.specs.Bytes.{bytes, unwritable, encode_refusal, decode}
-use Rattle.wire.specs.Encoding.{Encoding, refused, written, encode}
+use Rattle.wire.specs.Bytes.{decode}
+use Rattle.wire.specs.Encoding.{encode}
 use Rattle.server.specs.declared.Server.{Server}
 use Rattle.door.specs.Exchange.{nothing_taken, exchanged, take, ends, taking}
 
 -- a refusal is none that is not there
 pub number-there : (r : Refusal) → there (number_of r) ≡ true
-number-there OutOfRange = refl
-number-there BadPieces = refl
-number-there BadSet = refl
-number-there Untouched = refl
-number-there OtherPieces = refl
-number-there OtherSet = refl
-number-there TooFew = refl
-number-there Misplaced = refl
-number-there NoBallot = refl
-number-there Cut = refl
-number-there Left = refl
-number-there Unknown = refl
-number-there OutOfForm = refl
-number-there NoRoom = refl
+number-there r = ap not (told-other r)
 
 -- what a host is told of an outcome is what is told of it
 pub told-is : (r : Result ℕ Refusal) (e : Encoded) → told_of r ≡ e → told r ≡ e.refusal

@@ -1,13 +1,14 @@
 -- Two outcomes are equal where what is told of them is: a refusal by its number, or what is given. Assumes nothing.
 use mathlib.Core.Path.{◌≡◌, refl, sym, ap, ◌∙◌}
 use Prim.Native.Nat.{ℕ}
-use native.Mathlib.Omega.{arith}
+use mathlib.Core.Bool.{true≢false}
 use lib.Dec.{eqb}
 use Rattle.std.specs.Prelude.{Option, Some, None, Result, Ok, Err, IfOk, MatchOption, MatchResult}
 use Rattle.rules.specs.Choice.{◌if◌else◌}
 use Rattle.rules.specs.Refusal.{number_of, told}
 use Rattle.rules.specs.declared.refusals.Refusal.{Refusal}
 use Rattle.rules.specs.declared.refusals.Refusal.TheVariants.{OutOfRange, BadPieces, BadSet, Untouched, OtherPieces, OtherSet, TooFew, Misplaced, NoBallot, Cut, Left, Unknown, OutOfForm, NoRoom}
+use Rattle.drive.proofs.Told.{told-other}
 use Rattle.rules.specs.declared.Ballot.{Ballot}
 use Rattle.rules.specs.Ballots.{as_next}
 use Rattle.encoding.specs.Answers.{told_of}
@@ -55,20 +56,7 @@ number-one r s e = sym (of-number r) ∙ ap of_number e ∙ of-number s
 
 -- and none has 0
 number-some : (r : Refusal) → number_of r ≡ 0 → ⊥
-number-some OutOfRange e = omega (arith, e)
-number-some BadPieces e = omega (arith, e)
-number-some BadSet e = omega (arith, e)
-number-some Untouched e = omega (arith, e)
-number-some OtherPieces e = omega (arith, e)
-number-some OtherSet e = omega (arith, e)
-number-some TooFew e = omega (arith, e)
-number-some Misplaced e = omega (arith, e)
-number-some NoBallot e = omega (arith, e)
-number-some Cut e = omega (arith, e)
-number-some Left e = omega (arith, e)
-number-some Unknown e = omega (arith, e)
-number-some OutOfForm e = omega (arith, e)
-number-some NoRoom e = omega (arith, e)
+number-some r e = true≢false (ap (λ (n : ℕ). eqb n 0) (sym e) ∙ told-other r)
 
 pub told-one : (x y : Result (Unit {0}) Refusal) → told x ≡ told y → x ≡ y
 told-one (Ok a) (Ok b) e = refl

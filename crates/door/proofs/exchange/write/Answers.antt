@@ -1,5 +1,4 @@
 -- `door::exchange::write` meets its contract: what is told of an outcome is what a host is told. Assumes nothing.
-use Rattle.std.proofs.Common.{◌∙◌}
 use Rattle.door.proofs.Answered.{told-is, length-is, kept-is}
 use Rattle.door.proofs.exchange.write.Goals as goal
 
