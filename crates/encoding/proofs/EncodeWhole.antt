@@ -2,6 +2,8 @@
 use mathlib.Core.Path.{◌≡◌, refl, sym, ap, ◌∙◌}
 use mathlib.Core.Bool.{Bool, true, false, not, cond, ◌&&◌, ◌||◌, or-false}
 use mathlib.Core.List.{List, [], ◌∷◌, append_assoc, append-nil}
+use Rattle.std.proofs.Common.{Result, Ok, Err}
+use Rattle.std.specs.Prelude.{IsErrAnd}
 use Prim.Native.Nat.{ℕ, ◌+◌, ◌*◌, ◌≤◌, ◌<◌}
 use native.Mathlib.Nat.{mul-le-mul_right}
 use native.Mathlib.Omega.{arith}
@@ -30,7 +32,9 @@ use Rattle.wire.specs.Bytes.{body, code, bytes, unwritable, encode_refusal}
 use Rattle.wire.specs.Encoding.{Encoding, refused, written, encode}
 use Rattle.wire.proofs.Longest.{cost_le}
 use Rattle.wire.proofs.Lengths.{piece-length, value-length, set-length, maybe-word-length, maybe-vote-length}
-use Rattle.encoding.specs.Answers.{sent}
+use Rattle.rules.specs.declared.refusals.Refusal.{Refusal}
+use Rattle.rules.specs.declared.refusals.Refusal.TheVariants.{NoRoom}
+use Rattle.encoding.specs.Answers.{sent, told_of}
 use Rattle.encoding.specs.Sections.{front, front_length, cat}
 use Rattle.encoding.specs.ByKind.{bare, asked, answered, bare_shape, asked_shape, answered_shape, kind_shape, bare_sections, asked_sections, answered_sections}
 use Rattle.encoding.proofs.ByKind.{kind_shape_lem}
@@ -47,6 +51,28 @@ front_length_lem h t s b p n =
     let has : (c : Bool) (v : ℕ) → length ((when 0 u32 c).put v) ≡ cost c 4 = λ c v. when_length 0 u32 c v (λ _. be-length 4 v) in
     simp length-append (omega (arith, be-length 4 t, has h.server s, has h.ballot b, has h.promise p, has h.ran n))
 
+both-cost : (b : Bool) → cost b 4 + cost b 32 ≡ cost b 36
+both-cost true = refl
+both-cost false = refl
+
+prepared-length : (a : MaybeWord) (v : MaybeVote) → length (prepared.put (a, v)) ≡ (4 + cost (there a.some) 8) + (4 + cost (there v.some) 36)
+prepared-length a v =
+    let w = when_length 0 u64 (there a.some) a.word (λ _. be-length 8 a.word) in
+    let b = when_length 0 u32 (there v.some) v.ballot (λ _. be-length 4 v.ballot) in
+    let s = when_length no_set set4 (there v.some) v.set (λ _. set-length v.set) in
+    simp length-append (omega (arith, maybe-word-length a, maybe-vote-length v, both-cost (there v.some)))
+
+pub pieces-length : (p : Pieces) → length (pieces.put p) ≡ 4 + length (take p.count p.list) * 16
+unfolding pieces
+pieces-length p = simp length-append (omega (arith, be-length 4 p.count, flat-length piece 16 piece-length (take p.count p.list)))
+
+pub values-length : (r : Values) → length (values.put r) ≡ 4 + length (take r.count r.list) * 8
+unfolding values
+values-length r = simp length-append (omega (arith, be-length 4 r.count, flat-length value 8 value-length (take r.count r.list)))
+
+pub results-length : (b : Bool) (r : Values) → b ≡ true → 4 + length (take r.count r.list) * 8 ≡ length ((when no_values values b).put r)
+results-length b r e = sym (values-length r) ∙ ap (λ (c : Bool). length ((when no_values values c).put r)) (sym e)
+
 -- ---- and how many at most
 
 flat-most : {A : Type 0} (F : Form A) (w : ℕ) → ((a : A) → length (F.put a) ≡ w) → (xs : List A) (n : ℕ) → length (flat F (take n xs)) ≤ n * w
@@ -54,11 +80,11 @@ flat-most F w wide xs n =
     let k : length (take n xs) ≤ n = omega (arith, length-take n xs) in
     omega (arith, flat-length F w wide (take n xs), mul-le-mul_right w k)
 
-pieces-most : (p : Pieces) → p.count ≤ 8 → length (pieces.put p) ≤ 132
+pub pieces-most : (p : Pieces) → p.count ≤ 8 → length (pieces.put p) ≤ 132
 unfolding pieces
 pieces-most p h = simp length-append (omega (arith, be-length 4 p.count, flat-most piece 16 piece-length p.list p.count))
 
-values-most : (r : Values) → r.count ≤ 8 → length (values.put r) ≤ 68
+pub values-most : (r : Values) → r.count ≤ 8 → length (values.put r) ≤ 68
 unfolding values
 values-most r h = simp length-append (omega (arith, be-length 4 r.count, flat-most value 8 value-length r.list r.count))
 
@@ -74,7 +100,7 @@ prepared-most a v =
     simp length-append (omega (arith, maybe-word-length a, maybe-vote-length v))
 
 -- no server, no promise and no count of what ran: eight bytes before the count of pieces
-asked_small : (k : ℕ) (h : Shape) → h ≡ asked_shape k → front_length h ≤ 8
+pub asked_small : (k : ℕ) (h : Shape) → h ≡ asked_shape k → front_length h ≤ 8
 asked_small k h e = rw e (omega (arith, cost_le (asked_shape k).ballot 4))
 
 module _ (m : Message) where
@@ -89,6 +115,24 @@ module _ (m : Message) where
 
   abbrev pub answered_built : Shape → List (List ℕ)
   answered_built h = answered_sections h m.code m.t m.server m.ballot m.promise m.ran m.word m.arrival m.accepted m.values
+
+  pub bare-length : length (cat bare_built) ≡ 8
+  unfolding code
+  bare-length = simp (length-append, be-length)
+
+  pub asked-length : (h : Shape) → length (cat (asked_built h)) ≡ ((4 + front_length h) + length (pieces.put m.pieces)) + cost h.set 32
+  unfolding code
+  asked-length h =
+      let s = when_length no_set set4 h.set m.set (λ _. set-length m.set) in
+      simp length-append (omega (arith, be-length 4 m.code, front_length_lem h m.t m.server m.ballot m.promise m.ran))
+
+  pub answered-length : (h : Shape) → length (cat (answered_built h))
+      ≡ (((4 + front_length h) + cost h.word 8) + cost h.prepared ((4 + cost (there m.arrival.some) 8) + (4 + cost (there m.accepted.some) 36))) + length ((when no_values values h.values).put m.values)
+  unfolding code
+  answered-length h =
+      let x = when_length 0 u64 h.word m.word (λ _. be-length 8 m.word) in
+      let y = when_length (no_word, no_vote) prepared h.prepared (m.arrival, m.accepted) (λ _. prepared-length m.arrival m.accepted) in
+      simp length-append (omega (arith, be-length 4 m.code, front_length_lem h m.t m.server m.ballot m.promise m.ran))
 
   pub bare-room : 0 + length (cat bare_built) ≤ 176
   unfolding code
@@ -119,27 +163,31 @@ module _ (m : Message) where
 
 -- ---- what is sent
 
-built_first : (s : List ℕ) {n : ℕ} {z₀ : List ℕ} {b : List ℕ} → Put 0 s z₀ n b → take n b ≡ s
+built_first : (s : List ℕ) {n : ℕ} {z₀ : List ℕ} {r : ℕ} {b : List ℕ} → length s ≡ n → Put 0 s z₀ r b → take n b ≡ s
 unfolding over
-built_first s {n} {z₀} p = ap (take n) p.bytes ∙ take_at s (drop (length s) z₀) n (omega (arith, p.next))
+built_first s {n} {z₀} l p = ap (take n) p.bytes ∙ take_at s (drop (length s) z₀) n l
 
-module _ (s z : List ℕ) where
-  pub sent-12 : {u : Bool} → u ≡ true → refused 12 z ≡ sent u s z
+module _ (s z : List ℕ) {u : Bool} where
+  pub sent-12 : u ≡ true → refused 12 z ≡ sent u s z
   unfolding sent
   sent-12 e = rw e
 
-  module _ {n : ℕ} (l : length s ≡ n) where
-    pub sent-14 : length z < n → refused 14 z ≡ sent false s z
+  module _ {n : ℕ} (e : u ≡ false) (l : length s ≡ n) where
+    pub sent-14 : length z < n → refused 14 z ≡ sent u s z
     unfolding sent
-    sent-14 h = rw (l, lt-ltb (length z) n h)
+    sent-14 h = rw (e, l, lt-ltb (length z) n h)
 
-    pub sent-all : n ≤ length z → {z' : List ℕ} → z' ≡ over s z → ◌≡◌ {A = Encoding} (record { refusal = 0; size = n; buffer = z' }) (sent false s z)
+    -- built in another buffer, and then copied
+    pub sent-all : n ≤ length z → {z₀ : List ℕ} {r : ℕ} {b z' : List ℕ} → Put 0 s z₀ r b → z' ≡ over (take n b) z → ◌≡◌ {A = Encoding} (record { refusal = 0; size = n; buffer = z' }) (sent u s z)
     unfolding sent
-    sent-all h q = rw (l, le-ltb (length z) n h, q)
+    sent-all h p q =
+        let all = q ∙ ap (λ (x : List ℕ). over x z) (built_first s l p) in
+        rw (e, l, le-ltb (length z) n h, all)
 
-  -- what was built is what is sent
-  pub sent-built : {u : Bool} → u ≡ false → {z₀ : List ℕ} {n : ℕ} {b : List ℕ} → Put 0 s z₀ n b → sent false (take n b) z ≡ sent u s z
-  sent-built e p = λ i. sent (sym e i) (built_first s p i) z
+-- what `?` hands on of an output without room is told as 14
+pub none-written : (r : Result ℕ Refusal) (x : Refusal) → IsErrAnd r (λ e. e ≡ x) → x ≡ NoRoom → told_of r ≡ record { refusal = 14; length = 0 }
+none-written (Ok n) x f h = absurd f
+none-written (Err e) x f h = rw (f ∙ h)
 
 -- ---- and the definition
 

@@ -1,14 +1,24 @@
--- The code and T. Assumes nothing.
-use Rattle.std.proofs.Common.{refl, ap, ◌∙◌, arith}
+-- The code and T, where there is room for them. Assumes nothing.
+use Rattle.std.proofs.Common.{◌≡◌, ℕ, refl, sym, ap, ◌∙◌, arith}
 use lib.Dec.{lit<}
+use lib.ListN.{length, take}
+use Rattle.xdr.specs.Over.{over}
 use Rattle.wire.specs.Encoding.{Encoding}
 use Rattle.wire.specs.Bytes.{code}
 use Rattle.xdr.specs.Word.{be-length}
 use Rattle.encoding.specs.Answers.{answer}
 use Rattle.encoding.specs.Sections.{cat}
 use Rattle.encoding.proofs.WriteWhole.{cleared, none-put, section-room, section-put, built-fits}
-use Rattle.encoding.proofs.EncodeWhole.{bare_built, bare-room, sent-built}
+use Rattle.encoding.proofs.EncodeWhole.{bare_built, bare-room, bare-length, sent-14, sent-all, none-written}
 use Rattle.encoding.proofs.bare.Goals as goal
+
+pub returns-in_err-room : goal.returns-in_err-room
+unfolding code
+returns-in_err-room c =
+    let m = c.args.m.now in
+    let short = c.in_err-room.ensures in
+    let e = sent-14 (cat (bare_built m)) c.args.out.now refl (bare-length m) short.0 in
+    (none-written c.from_residual.result c.in_err-room.field-0.0 c.from_residual.ensures.1 short.1 ∙ ap answer e, ap (λ (x : Encoding). x.buffer) e)
 
 pub put-a-requires : goal.put-a-requires
 put-a-requires c = omega (arith, be-length 4 c.args.m.now.code)
@@ -29,7 +39,8 @@ send-requires c =
     let room = bare-room m in
     let p₁ = section-put ss 0 cleared room 0 (lit< tt) (none-put ss 0 cleared room) c.put-a.ensures in
     let p₂ = section-put ss 0 cleared room 1 (lit< tt) p₁ c.put-n.ensures in
-    built-fits ss room p₂
+    let fits = built-fits ss room p₂ in
+    (fits.0, omega (arith, c.in_ok-room.ensures, p₂.next, bare-length m), fits.1)
 
 pub returns : goal.returns
 unfolding code
@@ -39,5 +50,6 @@ returns c =
     let room = bare-room m in
     let p₁ = section-put ss 0 cleared room 0 (lit< tt) (none-put ss 0 cleared room) c.put-a.ensures in
     let p₂ = section-put ss 0 cleared room 1 (lit< tt) p₁ c.put-n.ensures in
-    let e = sent-built (cat ss) c.args.out.now refl p₂ in
-    (c.send.ensures.0 ∙ ap answer e, c.send.ensures.1 ∙ ap (λ (x : Encoding). x.buffer) e)
+    let all : length (cat ss) ≡ c.send.result = omega (arith, p₂.next, c.send.ensures.length) in
+    let e = sent-all (cat ss) c.args.out.now refl all (omega (arith, c.in_ok-room.ensures, bare-length m)) p₂ (c.send.ensures.bytes ∙ ap (λ (k : ℕ). over (take k c.put-n.new.out) c.args.out.now) (sym c.send.ensures.length)) in
+    (ap answer e, ap (λ (x : Encoding). x.buffer) e)
