@@ -1,8 +1,9 @@
 """The public functions of the repository's libraries: what another crate or a host can call.
 
 A function counts where it is `pub` and every module on the way to it is `pub mod`; so does each function of an `impl`
-of a trait of the repository, whose clauses are the trait's. For each: crate, path below the crate, the text of its
-`ensures` clauses, the trait that binds its type parameter if it has one, and whether it is exported to C."""
+of a trait of the repository, whose clauses are the trait's, and each conversion, `impl From<A> for B`, whose clause is
+its `from_gives`. For each: crate, path below the crate, the text of its `ensures` clauses, the trait that binds its type
+parameter if it has one, and whether it is exported to C."""
 import pathlib
 import re
 from dataclasses import dataclass
@@ -63,9 +64,15 @@ def parameters(text, at):
 
 
 def type_name(text):
-    """The name that the prover gives a type: `U32`, `Set`, `Tuple2MaybeWordMaybeVote`."""
-    parts = [part.strip() for part in text.strip('()').split(',')]
+    """The name that the prover gives a type: `U32`, `Set`, `Tuple2MaybeWordMaybeVote`, `ResultU32Refusal`."""
+    parts = re.findall(r'\w+', text)
     return (f'Tuple{len(parts)}' if text.startswith('(') else '') + ''.join(part[0].upper() + part[1:] for part in parts)
+
+
+def converted(body):
+    """What a conversion gives, as a clause on its result, or none where `from_gives` is no equation."""
+    gives = re.search(r'ghost from_gives = \{ λ \w+ (\w+)\. (\w+) ≡ (.*?) \};', ' '.join(body.split()))
+    return [f'result ≡ {gives.group(3)}'] if gives and gives.group(1) == gives.group(2) else []
 
 
 def trait_clauses(text):
@@ -99,36 +106,55 @@ def signatures(text):
         yield m.group(1), contract(text, at, ';')[0]
 
 
-def functions_of(text, prefix, homes, traits, inherited=None):
-    """Each public function of one module's text: path, parameters, type of the answer, ensures clauses, exported or not, body, bound."""
+def header(text, at):
+    """Of an `impl` that begins at `at`: its trait or none, its type, and the place of its brace."""
+    end = text.index('{', at)
+    words = ' '.join(re.sub(r'^impl\s*(<[^{]*?>(?=\s))?', '', text[at:end]).split())
+    of, _, to = words.rpartition(' for ')
+    return re.sub(r'^(\w+::)+', '', of), to, end
+
+
+def functions_of(text, prefix, homes, traits, inherited=None, private=False):
+    """Each public function of one module's text: path, parameters, type of the answer, ensures clauses, exported or not, body, bound.
+    Of a private module those alone that others reach by a type: an `impl` of a trait that is not the module's own."""
     at = 0
-    pattern = re.compile(r'\bimpl\s+(?:(\w+)\s+for\s+)?(\w+|\([\w, ]*\))\s*\{|\bpub\s+trait\s+\w+[^{]*\{|\bpub\s+(extern "C"\s+)?fn\s+(\w+)(?:<\w+: (\w+)>)?|\bfn\s+(\w+)')
+    pattern = re.compile(r'\bimpl\b(?=\s*<|\s+\w|\s*\()|\bpub\s+trait\s+\w+[^{]*\{|\bpub\s+(extern "C"\s+)?fn\s+(\w+)(?:<\w+: (\w+)>)?|\bfn\s+(\w+)')
     while True:
         m = pattern.search(text, at)
         if not m:
             return
-        if m.group().startswith(('impl', 'pub trait')) or m.group().split()[:2] == ['pub', 'trait']:
-            body, at = block(text, m.end() - 1)
-            if m.group(2) and m.group(1) in traits:
-                yield from functions_of(body, prefix + [type_name(m.group(2)) + m.group(1)], homes, traits, traits[m.group(1)])
-            elif m.group(2) and not m.group(1):
-                yield from functions_of(body, homes.get(m.group(2), prefix) + [m.group(2)], homes, traits)
+        if m.group() == 'impl':
+            of, to, brace = header(text, m.start())
+            body, at = block(text, brace)
+            if of.startswith('From<'):
+                yield from functions_of(body, prefix + [type_name(to) + type_name(of)], homes, traits, {'from': converted(body)})
+            elif of in traits:
+                yield from functions_of(body, prefix + [type_name(to) + of], homes, traits, traits[of])
+            elif not of and not private:
+                yield from functions_of(body, homes.get(to, prefix) + [to], homes, traits)
+            elif of and not re.search(rf'\btrait {re.escape(of)}\b', text):
+                # a trait that is known neither here nor in its own module: nothing is said of its functions
+                yield '::'.join(prefix + [type_name(to) + type_name(of)]), [], '', [], False, body, ''
+            continue
+        if m.group().startswith('pub') and m.group().split()[1] == 'trait':
+            _, at = block(text, m.end() - 1)
             continue
         params, at = parameters(text, m.end())
         arrow = re.match(r'\s*->\s*([^\s{]+)', text[at:])
         ensures, at = contract(text, at, '{')
         body, at = block(text, at)
-        name = m.group(4) or (m.group(6) if inherited else None)
+        name = m.group(2) if not private else None
+        name = m.group(4) if inherited and not name else name
         if name:
-            yield '::'.join(prefix + [name]), params, arrow.group(1) if arrow else '', inherited[name] if inherited else ensures, bool(m.group(3)), body, m.group(5) or ''
+            yield '::'.join(prefix + [name]), params, arrow.group(1) if arrow else '', inherited[name] if inherited else ensures, bool(m.group(1)), body, m.group(3) or ''
 
 
-def modules(folder, text, prefix):
-    """The public modules of a crate: their texts and paths."""
-    yield prefix, text
-    for name in re.findall(r'\bpub\s+mod\s+(\w+)\s*;', text):
+def modules(folder, text, prefix, private=False):
+    """The modules of a crate: their texts and paths, and whether one on the way is private."""
+    yield prefix, text, private
+    for public, name in re.findall(r'\b(pub\s+)?mod\s+(\w+)\s*;', text):
         below = without_comments((folder / f'{name}.rt').read_text(encoding='utf-8'))
-        yield from modules(folder / name, below, prefix + [name])
+        yield from modules(folder / name, below, prefix + [name], private or not public)
 
 
 def public_functions(root='.', roots=('lib',)):
@@ -143,11 +169,11 @@ def public_functions(root='.', roots=('lib',)):
         text = without_comments(lib.read_text(encoding='utf-8'))
         below = list(modules(lib.parent, text, []))
         # where each type is declared, which is where the prover has the functions of its `impl`
-        homes = {name: prefix for prefix, body in below for name in re.findall(r'\bpub (?:struct|enum) (\w+)', body)}
-        for prefix, body in below:
+        homes = {name: prefix for prefix, body, _ in below for name in re.findall(r'\bpub (?:struct|enum) (\w+)', body)}
+        for prefix, body, private in below:
             uses = re.findall(r'ghost use ([^;]+);', body)
             imports = {name.strip(): owner for owner, names in re.findall(r'(?m)^use (\w+)::(?:\w+::)*(\w+|\{[^}]*\});', body) for name in names.strip('{}').split(',')}
-            for found_one in functions_of(body, prefix, homes, traits):
+            for found_one in functions_of(body, prefix, homes, traits, private=private):
                 found.append(Function(crate, *found_one, uses, imports))
     return found
 

@@ -5,6 +5,9 @@ use Prim.Native.Nat.{ℕ}
 use Rattle.outcomes.specs.Once.{Answers, Leaves}
 use Rattle.outcomes.proofs.Forms.{told-ok}
 use Rattle.drive.specs.declared.Drive.{Drive}
+use Rattle.door.proofs.AnswerFromResultU32Refusal.from.Reads as door·AnswerFromResultU32Refusal·from-contract
+use Rattle.door.proofs.DueFromResultPostedRefusal.from.Reads as door·DueFromResultPostedRefusal·from-contract
+use Rattle.door.proofs.CountedFromResultU32Refusal.from.Reads as door·CountedFromResultU32Refusal·from-contract
 use Rattle.door.proofs.exchange.write.Reads as door·exchange·write-contract
 use Rattle.door.proofs.exchange.take_reply.Reads as door·exchange·take-reply-contract
 use Rattle.door.proofs.exchange.post.Reads as door·exchange·post-contract
@@ -12,6 +15,15 @@ use Rattle.door.proofs.Reading.none.Reads as door·Reading·none-contract
 use Rattle.door.proofs.readings.counter.Reads as door·readings·counter-contract
 use Rattle.door.proofs.readings.log_entry.Reads as door·readings·log-entry-contract
 use Rattle.door.proofs.readings.result.Reads as door·readings·result-contract
+
+pub door·AnswerFromResultU32Refusal·from : Answers door·AnswerFromResultU32Refusal·from-contract.Post
+door·AnswerFromResultU32Refusal·from κ a x y e e' p q = p ∙ sym q
+
+pub door·DueFromResultPostedRefusal·from : Answers door·DueFromResultPostedRefusal·from-contract.Post
+door·DueFromResultPostedRefusal·from κ a x y e e' p q = p ∙ sym q
+
+pub door·CountedFromResultU32Refusal·from : Answers door·CountedFromResultU32Refusal·from-contract.Post
+door·CountedFromResultU32Refusal·from κ a x y e e' p q = p ∙ sym q
 
 pub door·exchange·write : Answers door·exchange·write-contract.Post
 door·exchange·write κ a x y e e' p q = told-ok x y _ (p.0 ∙ sym q.0) p.1.0 q.1.0

@@ -4,6 +4,7 @@ use mathlib.Core.List.{List}
 use Prim.Native.Nat.{ℕ}
 use Rattle.outcomes.specs.Once.{Answers, Leaves}
 use Rattle.outcomes.proofs.Forms.{told_of-one}
+use Rattle.encoding.proofs.EncodedFromResultU32Refusal.from.Reads as encoding·EncodedFromResultU32Refusal·from-contract
 use Rattle.encoding.proofs.cost.Reads as encoding·cost-contract
 use Rattle.encoding.proofs.front_length.Reads as encoding·front-length-contract
 use Rattle.encoding.proofs.bare.Reads as encoding·bare-contract
@@ -15,6 +16,9 @@ use Rattle.encoding.proofs.shapes.asked.Reads as encoding·shapes·asked-contrac
 use Rattle.encoding.proofs.shapes.answered.Reads as encoding·shapes·answered-contract
 use Rattle.encoding.proofs.shapes.asked_shape.Reads as encoding·shapes·asked-shape-contract
 use Rattle.encoding.proofs.shapes.answered_shape.Reads as encoding·shapes·answered-shape-contract
+
+pub encoding·EncodedFromResultU32Refusal·from : Answers encoding·EncodedFromResultU32Refusal·from-contract.Post
+encoding·EncodedFromResultU32Refusal·from κ a x y e e' p q = p ∙ sym q
 
 pub encoding·cost : Answers encoding·cost-contract.Post
 encoding·cost κ a x y e e' p q = p.0 ∙ sym q.0

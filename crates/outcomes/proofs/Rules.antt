@@ -3,6 +3,7 @@ use mathlib.Core.Path.{sym, ◌∙◌}
 use Rattle.outcomes.specs.Once.{Answers}
 use Rattle.outcomes.proofs.Forms.{as_next-one}
 use Rattle.rules.proofs.Ballot.next.Reads as rules·Ballot·next-contract
+use Rattle.rules.proofs.NextBallotFromResultBallotRefusal.from.Reads as rules·NextBallotFromResultBallotRefusal·from-contract
 use Rattle.rules.proofs.cluster.bad_number.Reads as rules·cluster·bad-number-contract
 use Rattle.rules.proofs.cluster.bad_server.Reads as rules·cluster·bad-server-contract
 use Rattle.rules.proofs.cluster.bad_coordinator.Reads as rules·cluster·bad-coordinator-contract
@@ -20,11 +21,16 @@ use Rattle.rules.proofs.sets.union_set.Reads as rules·sets·union-set-contract
 use Rattle.rules.proofs.sets.members.Reads as rules·sets·members-contract
 use Rattle.rules.proofs.sets.bad_word.Reads as rules·sets·bad-word-contract
 use Rattle.rules.proofs.sets.bad_set.Reads as rules·sets·bad-set-contract
+use Rattle.rules.proofs.refusals.U32FromRefusal.from.Reads as rules·refusals·U32FromRefusal·from-contract
 use Rattle.rules.proofs.refusals.told.Reads as rules·refusals·told-contract
+use Rattle.rules.proofs.kinds.KindFromU32.from.Reads as rules·kinds·KindFromU32·from-contract
 use Rattle.rules.proofs.kinds.Kind.writes.Reads as rules·kinds·Kind·writes-contract
 
 pub rules·Ballot·next : Answers rules·Ballot·next-contract.Post
 rules·Ballot·next κ a x y e e' p q = as_next-one x y (p ∙ sym q)
+
+pub rules·NextBallotFromResultBallotRefusal·from : Answers rules·NextBallotFromResultBallotRefusal·from-contract.Post
+rules·NextBallotFromResultBallotRefusal·from κ a x y e e' p q = p ∙ sym q
 
 pub rules·cluster·bad-number : Answers rules·cluster·bad-number-contract.Post
 rules·cluster·bad-number κ a x y e e' p q = p ∙ sym q
@@ -77,8 +83,14 @@ rules·sets·bad-word κ a x y e e' p q = p ∙ sym q
 pub rules·sets·bad-set : Answers rules·sets·bad-set-contract.Post
 rules·sets·bad-set κ a x y e e' p q = p ∙ sym q
 
+pub rules·refusals·U32FromRefusal·from : Answers rules·refusals·U32FromRefusal·from-contract.Post
+rules·refusals·U32FromRefusal·from κ a x y e e' p q = p ∙ sym q
+
 pub rules·refusals·told : Answers rules·refusals·told-contract.Post
 rules·refusals·told κ a x y e e' p q = p ∙ sym q
+
+pub rules·kinds·KindFromU32·from : Answers rules·kinds·KindFromU32·from-contract.Post
+rules·kinds·KindFromU32·from κ a x y e e' p q = p ∙ sym q
 
 pub rules·kinds·Kind·writes : Answers rules·kinds·Kind·writes-contract.Post
 rules·kinds·Kind·writes κ a x y e e' p q = p ∙ sym q
