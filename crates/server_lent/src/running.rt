@@ -47,13 +47,15 @@ pub fn run_planned(s: &mut Server, p: &Planned) -> usize
     ensures many { result ≡ few_of p.now.many }
     ensures server { s.new ≡ ran_planned p.now.plan p.now.log p.now.many s.old }
 {
+    // Stored from a copy: from one lent place to another the compiler calls memmove, which a host need not have.
+    let log = p.log;
     let many = (p.many as usize).min(64);
     for t in 0..many {
-        let u = place_of(p.log.list[spot(p.plan.first, t)]);
+        let u = place_of(log.list[spot(p.plan.first, t)]);
         let v = run_pieces(&mut *s, u, p.plan.shard);
         s.records[u].values = v;
         s.records[u].ran = 1;
     }
-    s.log = p.log;
+    s.log = log;
     many
 }

@@ -54,12 +54,14 @@ pub fn take_commit(
     ensures output { output.new ≡ (committed s.old (kept f) c.now output.old).output }
 {
     let at = place_in(c);
+    // Stored from a copy: from one lent place to another the compiler calls memmove, which a host need not have.
+    let after = c.after;
     let mut d = waiting_in(&*s, f.word, 64);
-    d.note(f.word, at, &c.after.committed);
-    let u = unrun_of(&c.after.committed, f.word);
+    d.note(f.word, at, &after.committed);
+    let u = unrun_of(&after.committed, f.word);
     let p = plan_commit(f, &d, at, u, &s.log);
     let length = write(&commit_ok(c.reply.t, c.reply.server, p.many), output)?;
-    s.records[at] = c.after;
+    s.records[at] = after;
     run_planned(&mut *s, &p);
     Ok(length)
 }

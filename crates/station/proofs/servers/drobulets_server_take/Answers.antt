@@ -12,8 +12,8 @@ pub returns-then-d-ne0 : goal.returns-then-d-ne0
 returns-then-d-ne0 c =
     let e = ap (λ (d : Decoded). d.refusal) c.decode-d.ensures in
     let h : there (decode c.args.input.now).refusal ≡ true = rw (← e, ne_eqb _ 0 c.if-d-ne0.true) in
-    let all = sym (take-undecoded c.args.s.now c.args.input.now c.args.output.now h) in
-    (rw e (ap (λ (x : Exchange). x.answer) all), ap (λ (x : Exchange). x.server) all, ap (λ (x : Exchange). x.output) all)
+    let none = take-undecoded c.args.s.now c.args.input.now c.args.output.now h in
+    (rw e (ap (λ (x : Exchange). x.answer) (sym none)), grind (arith, none), ap (λ (x : Exchange). x.output) (sym none))
 
 pub returns : goal.returns
 returns c =
