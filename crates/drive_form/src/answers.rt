@@ -40,8 +40,10 @@ pub fn word_of(a: &Answer) -> u64
 pub fn accepted_formed(d: &Drive, shards: u64, a: &Answer) -> bool
     ensures { result ≡ accepted_formed d.now.t shards d.now.phase a.now }
 {
-    let held = (d.phase == 0) & has_accepted(a);
-    !held
-        | (!rules::ballots::bad_ballot(a.accepted.ballot)
-            & !rules::sets::bad_set(d.t, shards, a.accepted.set))
+    if (d.phase == 0) & has_accepted(a) {
+        !rules::ballots::bad_ballot(a.accepted.ballot)
+            & !rules::sets::bad_set(d.t, shards, a.accepted.set)
+    } else {
+        true
+    }
 }
