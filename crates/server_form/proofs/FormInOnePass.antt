@@ -5,11 +5,11 @@ use mathlib.Core.Path.{◌≡◌, refl, sym, ap, ◌∙◌}
 use mathlib.Core.Logic.{⊎_elim}
 use mathlib.Core.Bool.{Bool, true, false, not, cond, ◌&&◌, ◌||◌, and_assoc, and-true, and-false}
 use native.Mathlib.Omega.{arith}
-use lib.Dec.{leb, eqb}
-use borrow.Author.Tests.{leb-true, eqb-true, eq-eqb, lt-leb, le-leb}
+use lib.Dec.{leb, ltb, eqb}
+use borrow.Author.Tests.{leb-true, ltb-true, ltb-false, eqb-true, eq-eqb, lt-leb, le-leb}
 use Rattle.masks.specs.Bits.{has, insert, within}
 use Rattle.masks.specs.Folds.{all_below, any_below, iter}
-use Rattle.masks.proofs.Bools.{and_yes, and_yes-l, and_yes_r, and_no_r, true_or_false, bool_ext}
+use Rattle.masks.proofs.Bools.{and_yes, and_yes-l, and_yes_r, true_or_false, bool_ext}
 use Rattle.masks.proofs.Turns.{all_none, all-step, iter-none, iter-step}
 use Rattle.masks.proofs.Laws.{has-none, has-put}
 use Rattle.masks.proofs.FoldLaws.{all_at, no_all, all_of, all_cong, all_both, any_at, any_of}
@@ -43,6 +43,13 @@ logged-has l (suc n) t =
     has-put (logged l n) (entry_at l n) t (leb (entry_at l n) 63)
     ∙ ap (λ (b : Bool). b || is_number l t n) (logged-has l n t)
 
+leb-63 : (n : ℕ) → leb n 63 ≡ ltb n 64
+leb-63 n = go (ltb n 64) refl
+  where
+    go : (b : Bool) → ltb n 64 ≡ b → leb n 63 ≡ b
+    go true e = le-leb n 63 (omega (arith, ltb-true n 64 e))
+    go false e = lt-leb n 63 (omega (arith, ltb-false n 64 e))
+
 -- the log as it is read: too long, broken at the entry i, whole, or fine so far
 module _ (l : Log) where
   pub log-long : 64 < l.count → (read_log l).fine ≡ false
@@ -58,13 +65,9 @@ module _ (l : Log) where
   log_whole h i e f = rw (le-leb l.count 64 h) (ap (all_below (entry_new l)) (sym e) ∙ f, ap (logged l) e)
 
   module _ (i entry : ℕ) (here : entry ≡ entry_at l i) where
-    pub large-entry : 64 ≤ entry → entry_new l i ≡ false
+    pub entry-fresh : {b : Bool} → (ltb entry 64 && not (has (logged l i) entry)) ≡ b → entry_new l i ≡ b
     unfolding entry_new
-    large-entry h = rw (← here, lt-leb entry 63 (omega (arith, h)))
-
-    pub entry-again : has (logged l i) entry ≡ true → entry_new l i ≡ false
-    unfolding entry_new
-    entry-again h = rw (← here) (and_no_r (leb entry 63) _ (ap not h))
+    entry-fresh e = rw (← here, leb-63 entry) e
 
     pub entry-more : entry < 64 → has (logged l i) entry ≡ false → all_below (entry_new l) i ≡ true
         → (all_below (entry_new l) (i + 1) ≡ true) × (insert (logged l i) entry ≡ logged l (i + 1))

@@ -14,7 +14,8 @@ pub fn read_log(l: &Log) -> Option<u64>
     }
     let mut word: u64 = 0;
     for entry in &l.list[..l.count as usize] {
-        if NUMBERS <= *entry || masks::has(word, *entry as usize) {
+        let fresh = (*entry < NUMBERS) & !masks::has(word, *entry as usize);
+        if !fresh {
             return None;
         }
         word = masks::insert(word, *entry as usize);

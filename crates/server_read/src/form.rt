@@ -29,7 +29,8 @@ pub fn read_form(s: &Server) -> Result<Form, Refusal>
     };
     let shard = shard_of(s.id);
     for (t, record) in s.records.iter().enumerate() {
-        if !number_formed(shard, word, t as u32, record) {
+        let kept = number_formed(shard, word, t as u32, record);
+        if !kept {
             return Err(Refusal::OutOfForm);
         }
     }

@@ -1,13 +1,15 @@
 -- `log::read_log` meets its contract: the entries passed are new numbers, and the word holds them. Assumes nothing.
 use Rattle.std.proofs.Common.{◌≡◌, ℕ, false, sym, ap, ◌∙◌, arith, slice_index_or, take, length-take, ◌<◌}
 use Rattle.std.proofs.lemmas.List.{get_or-take}
+use lib.Dec.{ltb}
+use borrow.Author.Tests.{ltb-true}
 use Rattle.masks.specs.Bits.{has, insert}
+use Rattle.masks.proofs.Bools.{and_yes-l, and_yes_r, not_yes}
 use Rattle.masks.proofs.Turns.{all_none}
 use Rattle.server.specs.Form.{logged}
 use Rattle.server.specs.Held.{entry_at}
-use Rattle.server_form.proofs.FormInOnePass.{logged_none, log-long, log-broken, log_whole, large-entry, entry-again, entry-more}
+use Rattle.server_form.proofs.FormInOnePass.{logged_none, log-long, log-broken, log_whole, entry-fresh, entry-more}
 use Rattle.server_form.proofs.log.read_log.Goals as goal
-use Rattle.server_form.proofs.log.read_log.Goals.{then-entry-ge-NUMBERS-via-then-entry-ge-NUMBERS, then-entry-ge-NUMBERS-via-else-entry-ge-NUMBERS+then-has}
 
 pub returns-then-l-gt-NUMBERS : goal.returns-then-l-gt-NUMBERS
 returns-then-l-gt-NUMBERS c = log-long c.args.l.now c.if-l-gt-NUMBERS.true
@@ -21,24 +23,23 @@ loop-entry-preserved c =
     let l = c.args.l.now in
     let i = c.loop-entry.entry-index in
     let few : i < l.count = omega (arith, length-take l.count l.list) in
-    let e : slice_index_or (take l.count l.list) i 0 ≡ entry_at l i = get_or-take l.count l.list i 0 few in
+    let entry = slice_index_or (take l.count l.list) i 0 in
+    let e : entry ≡ entry_at l i = get_or-take l.count l.list i 0 few in
     let inv = c.loop-entry.invariant in
-    let unseen : has (logged l i) (slice_index_or (take l.count l.list) i 0) ≡ false = rw (← inv.1) (sym c.has.ensures ∙ c.if-has.false) in
-    let more = entry-more l i _ e c.if-entry-ge-NUMBERS.false unseen inv.0 in
-    (more.0, c.insert-word.ensures ∙ ap (λ (w : ℕ). insert w (slice_index_or (take l.count l.list) i 0)) inv.1 ∙ more.1)
+    let new = c.if-not-fresh.false in
+    let unseen : has (logged l i) entry ≡ false = rw (← inv.1) (sym c.has.ensures ∙ not_yes _ (and_yes_r (ltb entry 64) _ new)) in
+    let more = entry-more l i entry e (ltb-true entry 64 (and_yes-l (ltb entry 64) _ new)) unseen inv.0 in
+    (more.0, c.insert-word.ensures ∙ ap (λ (w : ℕ). insert w entry) inv.1 ∙ more.1)
 
-pub returns-then-entry-ge-NUMBERS : goal.returns-then-entry-ge-NUMBERS
-returns-then-entry-ge-NUMBERS c =
+pub returns-then-not-fresh : goal.returns-then-not-fresh
+returns-then-not-fresh c =
     let l = c.args.l.now in
     let i = c.loop-entry.entry-index in
     let few : i < l.count = omega (arith, length-take l.count l.list) in
-    let e : slice_index_or (take l.count l.list) i 0 ≡ entry_at l i = get_or-take l.count l.list i 0 few in
+    let entry = slice_index_or (take l.count l.list) i 0 in
+    let e : entry ≡ entry_at l i = get_or-take l.count l.list i 0 few in
     let inv = c.loop-entry.invariant in
-    log-broken l c.if-l-gt-NUMBERS.false i few
-    (elim c.then-entry-ge-NUMBERS.branch [
-      | then-entry-ge-NUMBERS-via-then-entry-ge-NUMBERS w ↦ large-entry l i _ e w.if-entry-ge-NUMBERS.true
-      | then-entry-ge-NUMBERS-via-else-entry-ge-NUMBERS+then-has w ↦ entry-again l i _ e (rw (← inv.1) (sym w.has.ensures ∙ w.if-has.true))
-    ])
+    log-broken l c.if-l-gt-NUMBERS.false i few (entry-fresh l i entry e (rw (← inv.1, ← c.has.ensures) c.if-not-fresh.true))
 
 pub returns : goal.returns
 returns c =

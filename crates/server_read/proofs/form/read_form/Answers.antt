@@ -22,15 +22,15 @@ loop-t-preserved c =
     let word = c.in-Some.word in
     let t = c.loop-t.t in
     number-more s word c.in-Some.ensures.1 t c.loop-t.invariant
-    (ap (λ (k : ℕ). number_formed k word t (record_at s t)) (sym c.shard_of-shard.ensures) ∙ sym c.number_formed.ensures ∙ c.if-not-number_formed.false)
+    (ap (λ (k : ℕ). number_formed k word t (record_at s t)) (sym c.shard_of-shard.ensures) ∙ sym c.number_formed-kept.ensures ∙ c.if-not-kept.false)
 
-pub returns-then-not-number_formed : goal.returns-then-not-number_formed
-returns-then-not-number_formed c =
+pub returns-then-not-kept : goal.returns-then-not-kept
+returns-then-not-kept c =
     let s = c.args.s.now in
     let word = c.in-Some.word in
     let t = c.loop-t.t in (
       number-broken s word c.in-Some.ensures.1 t (omega arith)
-          (ap (λ (k : ℕ). number_formed k word t (record_at s t)) (sym c.shard_of-shard.ensures) ∙ sym c.number_formed.ensures ∙ c.if-not-number_formed.true),
+          (ap (λ (k : ℕ). number_formed k word t (record_at s t)) (sym c.shard_of-shard.ensures) ∙ sym c.number_formed-kept.ensures ∙ c.if-not-kept.true),
       refl,
     )
 
