@@ -2,7 +2,7 @@
 
 A function counts where it is `pub` and every module on the way to it is `pub mod`; so does each function of an `impl`
 of a trait of the repository, whose clauses are the trait's, and each conversion, `impl From<A> for B`, whose clause is
-its `from_gives`. For each: crate, path below the crate, the text of its `ensures` clauses, the trait that binds its type
+its `from_gives`, whatever module it stands in. For each: crate, path below the crate, the text of its `ensures` clauses, the trait that binds its type
 parameter if it has one, and whether it is exported to C."""
 import pathlib
 import re
@@ -118,7 +118,7 @@ def functions_of(text, prefix, homes, traits, inherited=None, private=False):
     """Each public function of one module's text: path, parameters, type of the answer, ensures clauses, exported or not, body, bound.
     Of a private module those alone that others reach by a type: an `impl` of a trait that is not the module's own."""
     at = 0
-    pattern = re.compile(r'\bimpl\b(?=\s*<|\s+\w|\s*\()|\bpub\s+trait\s+\w+[^{]*\{|\bpub\s+(extern "C"\s+)?fn\s+(\w+)(?:<\w+: (\w+)>)?|\bfn\s+(\w+)')
+    pattern = re.compile(r'\bimpl\b(?=\s*<|\s+\w|\s*\()|\b(?:pub\s+)?trait\s+\w+[^{]*\{|\bpub\s+(extern "C"\s+)?fn\s+(\w+)(?:<\w+: (\w+)>)?|\bfn\s+(\w+)')
     while True:
         m = pattern.search(text, at)
         if not m:
@@ -136,15 +136,14 @@ def functions_of(text, prefix, homes, traits, inherited=None, private=False):
                 # a trait that is known neither here nor in its own module: nothing is said of its functions
                 yield '::'.join(prefix + [type_name(to) + type_name(of)]), [], '', [], False, body, ''
             continue
-        if m.group().startswith('pub') and m.group().split()[1] == 'trait':
+        if re.match(r'(pub\s+)?trait\b', m.group()):
             _, at = block(text, m.end() - 1)
             continue
         params, at = parameters(text, m.end())
         arrow = re.match(r'\s*->\s*([^\s{]+)', text[at:])
         ensures, at = contract(text, at, '{')
         body, at = block(text, at)
-        name = m.group(2) if not private else None
-        name = m.group(4) if inherited and not name else name
+        name = (m.group(4) if inherited else None) or (None if private else m.group(2))
         if name:
             yield '::'.join(prefix + [name]), params, arrow.group(1) if arrow else '', inherited[name] if inherited else ensures, bool(m.group(1)), body, m.group(3) or ''
 

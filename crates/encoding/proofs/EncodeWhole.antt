@@ -5,7 +5,6 @@ use mathlib.Core.List.{List, [], ◌∷◌, append_assoc, append-nil}
 use Rattle.std.proofs.Common.{Result, Ok, Err}
 use Rattle.std.specs.Prelude.{IsErrAnd}
 use Prim.Native.Nat.{ℕ, ◌+◌, ◌*◌, ◌≤◌, ◌<◌}
-use native.Mathlib.Nat.{mul-le-mul_right}
 use native.Mathlib.Omega.{arith}
 use lib.Dec.{ltb, eqb}
 use lib.ListN.{length, take, drop, length-append, length-take}
@@ -13,7 +12,7 @@ use lib.Seq.{take_at}
 use borrow.Author.Tests.{lt-ltb, le-ltb}
 use Rattle.xdr.specs.Word.{be-length}
 use Rattle.xdr.specs.Over.{over, Put}
-use Rattle.xdr.specs.Form.{Form, u32, u64, when, flat}
+use Rattle.xdr.specs.Form.{Form, u32, u64, when}
 use Rattle.xdr.specs.Array.{flat-length}
 use Rattle.xdr.proofs.Windows.{cost}
 use Rattle.rules.specs.declared.Pieces.{Pieces}
@@ -62,42 +61,28 @@ prepared-length a v =
     let s = when_length no_set set4 (there v.some) v.set (λ _. set-length v.set) in
     simp length-append (omega (arith, maybe-word-length a, maybe-vote-length v, both-cost (there v.some)))
 
-pub pieces-length : (p : Pieces) → length (pieces.put p) ≡ 4 + length (take p.count p.list) * 16
+pub pieces-bytes : (p : Pieces) → length (pieces.put p) ≡ 4 + length (take p.count p.list) * 16
 unfolding pieces
-pieces-length p = simp length-append (omega (arith, be-length 4 p.count, flat-length piece 16 piece-length (take p.count p.list)))
+pieces-bytes p = simp length-append (omega (arith, be-length 4 p.count, flat-length piece 16 piece-length (take p.count p.list)))
 
-pub values-length : (r : Values) → length (values.put r) ≡ 4 + length (take r.count r.list) * 8
+pub values-bytes : (r : Values) → length (values.put r) ≡ 4 + length (take r.count r.list) * 8
 unfolding values
-values-length r = simp length-append (omega (arith, be-length 4 r.count, flat-length value 8 value-length (take r.count r.list)))
+values-bytes r = simp length-append (omega (arith, be-length 4 r.count, flat-length value 8 value-length (take r.count r.list)))
 
-pub results-length : (b : Bool) (r : Values) → b ≡ true → 4 + length (take r.count r.list) * 8 ≡ length ((when no_values values b).put r)
-results-length b r e = sym (values-length r) ∙ ap (λ (c : Bool). length ((when no_values values c).put r)) (sym e)
+pub results-bytes : (b : Bool) (r : Values) → b ≡ true → 4 + length (take r.count r.list) * 8 ≡ length ((when no_values values b).put r)
+results-bytes b r e = sym (values-bytes r) ∙ ap (λ (c : Bool). length ((when no_values values c).put r)) (sym e)
 
 -- ---- and how many at most
 
-flat-most : {A : Type 0} (F : Form A) (w : ℕ) → ((a : A) → length (F.put a) ≡ w) → (xs : List A) (n : ℕ) → length (flat F (take n xs)) ≤ n * w
-flat-most F w wide xs n =
-    let k : length (take n xs) ≤ n = omega (arith, length-take n xs) in
-    omega (arith, flat-length F w wide (take n xs), mul-le-mul_right w k)
-
 pub pieces-most : (p : Pieces) → p.count ≤ 8 → length (pieces.put p) ≤ 132
-unfolding pieces
-pieces-most p h = simp length-append (omega (arith, be-length 4 p.count, flat-most piece 16 piece-length p.list p.count))
+pieces-most p h = omega (arith, pieces-bytes p, length-take p.count p.list)
 
 pub values-most : (r : Values) → r.count ≤ 8 → length (values.put r) ≤ 68
-unfolding values
-values-most r h = simp length-append (omega (arith, be-length 4 r.count, flat-most value 8 value-length r.list r.count))
+values-most r h = omega (arith, values-bytes r, length-take r.count r.list)
 
 when-most : {A : Type 0} (d : A) (F : Form A) (b : Bool) (x : A) (n : ℕ) → (b ≡ true → length (F.put x) ≤ n) → length ((when d F b).put x) ≤ n
 when-most d F true x n e = e refl
 when-most d F false x n e = omega arith
-
-prepared-most : (a : MaybeWord) (v : MaybeVote) → length (prepared.put (a, v)) ≤ 52
-prepared-most a v =
-    let w = when-most 0 u64 (there a.some) a.word 8 (λ _. omega (arith, be-length 8 a.word)) in
-    let b = when-most 0 u32 (there v.some) v.ballot 4 (λ _. omega (arith, be-length 4 v.ballot)) in
-    let s = when-most no_set set4 (there v.some) v.set 32 (λ _. omega (arith, set-length v.set)) in
-    simp length-append (omega (arith, maybe-word-length a, maybe-vote-length v))
 
 -- no server, no promise and no count of what ran: eight bytes before the count of pieces
 pub asked_small : (k : ℕ) (h : Shape) → h ≡ asked_shape k → front_length h ≤ 8
@@ -135,26 +120,23 @@ module _ (m : Message) where
       simp length-append (omega (arith, be-length 4 m.code, front_length_lem h m.t m.server m.ballot m.promise m.ran))
 
   pub bare-room : 0 + length (cat bare_built) ≤ 176
-  unfolding code
-  bare-room = simp (length-append, be-length) (omega arith)
+  bare-room = omega (arith, bare-length)
 
   pub asked-room : (h : Shape) → h ≡ asked_shape m.code → m.pieces.count ≤ 8 → 0 + length (cat (asked_built h)) ≤ 176
-  unfolding code
-  asked-room h e few =
-      let s = when-most no_set set4 h.set m.set 32 (λ _. omega (arith, set-length m.set)) in
-      simp length-append (omega (arith, be-length 4 m.code, front_length_lem h m.t m.server m.ballot m.promise m.ran, asked_small m.code h e, pieces-most m.pieces few))
+  asked-room h e few = omega (arith, asked-length h, asked_small m.code h e, pieces-most m.pieces few, cost_le h.set 32)
 
   pub answered-room : (h : Shape) → (h.values ≡ true → m.values.count ≤ 8) → 0 + length (cat (answered_built h)) ≤ 176
-  unfolding code
   answered-room h few =
-      let x = when-most 0 u64 h.word m.word 8 (λ _. omega (arith, be-length 8 m.word)) in
-      let y = when-most (no_word, no_vote) prepared h.prepared (m.arrival, m.accepted) 52 (λ _. prepared-most m.arrival m.accepted) in
       let z = when-most no_values values h.values m.values 68 (λ g. values-most m.values (few g)) in
       let l₁ = cost_le h.server 4 in
       let l₂ = cost_le h.ballot 4 in
       let l₃ = cost_le h.promise 4 in
       let l₄ = cost_le h.ran 4 in
-      simp length-append (omega (arith, be-length 4 m.code, front_length_lem h m.t m.server m.ballot m.promise m.ran))
+      let l₅ = cost_le h.word 8 in
+      let l₆ = cost_le h.prepared ((4 + cost (there m.arrival.some) 8) + (4 + cost (there m.accepted.some) 36)) in
+      let l₇ = cost_le (there m.arrival.some) 8 in
+      let l₈ = cost_le (there m.accepted.some) 36 in
+      omega (arith, answered-length h)
 
   -- what these have no server, promise and count of what ran
   pub asked-same : (h : Shape) → h ≡ asked_shape m.code → cat (asked_built h) ≡ cat (asked_sections h m.code m.t m.ballot m.pieces.list m.pieces.count m.set)

@@ -1,7 +1,6 @@
 -- What a walk of an exported function comes to is what its contract says. Each law is named for the function and for what it shows, and speaks of what the function's calls answer. Assumes nothing.
 use Prim.Native.Nat.{ℕ, ◌<◌}
 use mathlib.Core.Path.{◌≡◌, refl, ap}
-use mathlib.Core.List.{List}
 use mathlib.Core.Bool.{Bool, true, false, cond}
 use lib.Dec.{ltb}
 use borrow.Author.Tests.{ltb-true, lt-leb}
@@ -20,7 +19,6 @@ use Rattle.server_run.specs.Limited.{refusal_of, ran_up_to}
 use Rattle.server_run.proofs.Turning.{run-once, run-until}
 use Rattle.server_lent.specs.Listed.{ran_planned}
 use Rattle.server_lent.proofs.RunsInPlace.{planned, planned-refusal, planned-many, planned-server}
-use Rattle.rules.specs.Flags.{there}
 use Rattle.door.specs.Told.{counted}
 use Rattle.door.specs.Readings.{result_in, result_reading, result_at, no_reading}
 use Rattle.server_read.proofs.Sizes.{Told}
